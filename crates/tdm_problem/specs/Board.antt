@@ -1,0 +1,39 @@
+use Rattle.std.specs.Prelude.{◌≢◌, ℕ, ◌<◌, ◌≤◌, Bool, not, ◌==◌, List, [], ◌∷◌, length, filter, sum_by, All, AllPairs}
+use Rattle.tdm_problem.specs.declared.wire.Wire.{Wire}
+use Rattle.tdm_problem.specs.declared.limits.TheConstants.{MAX_FPGAS, MAX_WIRES, MAX_NETS, MAX_GROUPS, MAX_LISTED_FPGAS, MAX_LISTED_NETS}
+
+-- a board: how many FPGAs it has, its wires, the FPGAs of each net with the source first, and the nets of each group
+pub record Board : Type 0 where
+  pub fpgas : ℕ
+  pub wires : List Wire
+  pub nets : List (List ℕ)
+  pub groups : List (List ℕ)
+
+-- the wire joins two different FPGAs of the board
+pub record IsWireOf (fpgas : ℕ) (wire : Wire) : Type 0 where
+  pub a_there : wire.a < fpgas
+  pub b_there : wire.b < fpgas
+  pub no_loop : wire.a ≢ wire.b
+
+-- the row lists at least one number, none of them twice, and each below the limit
+pub record IsRowBelow (limit : ℕ) (row : List ℕ) : Type 0 where
+  pub some : 0 < length row
+  pub distinct : AllPairs (λ x y. x ≢ y) row
+  pub below : All (λ x. x < limit) row
+
+-- the board keeps to the limits, and all its numbers name something
+pub record IsBoard (board : Board) : Type 0 where
+  pub fpga_limit : board.fpgas ≤ MAX_FPGAS
+  pub wire_limit : length board.wires ≤ MAX_WIRES
+  pub net_limit : length board.nets ≤ MAX_NETS
+  pub group_limit : length board.groups ≤ MAX_GROUPS
+  pub net_total : sum_by length board.nets ≤ MAX_LISTED_FPGAS
+  pub group_total : sum_by length board.groups ≤ MAX_LISTED_NETS
+  pub wires : All (IsWireOf board.fpgas) board.wires
+  pub nets : All (IsRowBelow board.fpgas) board.nets
+  pub groups : All (IsRowBelow (length board.nets)) board.groups
+
+-- the numbers of a list, each once, in the place of its first
+abbrev pub without_repeats : List ℕ → List ℕ
+without_repeats [] = []
+without_repeats (x ∷ xs) = x ∷ filter (λ y. not (x == y)) (without_repeats xs)

@@ -1,0 +1,24 @@
+use Rattle.std.specs.Prelude.{◌≡◌, ℕ, ◌<◌, ◌*◌, List, [], length, slice_index_or, All, Contains}
+use Rattle.tdm_problem.specs.Board.{Board}
+use Rattle.tdm_problem.specs.Routing.{Routing, uses_of, wires_of, ratios_of, ratios_on, IsFor}
+use Rattle.tdm_problem.specs.Walk.{Joins}
+use Rattle.tdm_problem.specs.Fit.{FitsLanes}
+
+-- how many lanes wire e has, which share its reciprocals
+abbrev pub lanes_of : Board → ℕ → ℕ
+lanes_of board e = 1
+
+-- the FPGAs of net n
+abbrev pub terminals_of : Board → ℕ → List ℕ
+terminals_of board n = slice_index_or board.nets n []
+
+-- a ratio that a net may have on a wire: positive and even
+abbrev pub IsEvenRatio : ℕ → Type 0
+IsEvenRatio ratio = (half : ℕ) × (0 < half) × (ratio ≡ 2 * half)
+
+-- the wires of each net join its FPGAs, each ratio is positive and even, and on each wire the ratios fit
+pub record IsLegal (board : Board) (routing : Routing) : Type 0 where
+  pub is_for : IsFor board routing
+  pub joined : (n : ℕ) → n < length board.nets → Joins board (Contains (wires_of (uses_of routing n))) (terminals_of board n)
+  pub even : All (λ uses. All IsEvenRatio (ratios_of uses)) routing
+  pub fits : (e : ℕ) → e < length board.wires → FitsLanes (ratios_on routing e) (lanes_of board e)

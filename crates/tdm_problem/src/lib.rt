@@ -1,0 +1,13 @@
+//! The problem: boards with their nets and groups, and solutions for them, with the definitions that say
+//! which solutions are legal and what they are worth.
+#![tactic(auto)]
+
+mod limits;
+mod solution;
+mod wire;
+
+pub use limits::{
+    MAX_FPGAS, MAX_GROUPS, MAX_LISTED_FPGAS, MAX_LISTED_NETS, MAX_NETS, MAX_WIRES,
+};
+pub use solution::WireUse;
+pub use wire::Wire;
