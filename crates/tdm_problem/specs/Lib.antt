@@ -1,7 +1,10 @@
 pub mod Board
 pub mod Fit
 pub mod Routing
+pub mod Trees
 pub mod Walk
 pub mod Distance
 pub mod Legal
 pub mod Value
+pub mod Rows
+pub mod Firsts

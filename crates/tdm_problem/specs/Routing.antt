@@ -1,5 +1,7 @@
-use Rattle.std.specs.Prelude.{◌≡◌, ◌≢◌, ℕ, ◌<◌, ◌==◌, List, [], ◌∷◌, ◌++◌, length, map, filter, slice_index_or, All, AllPairs}
+use Rattle.std.specs.Prelude.{◌≡◌, ◌≢◌, ℕ, ◌<◌, ◌≤◌, ◌==◌, List, [], ◌∷◌, ◌++◌, length, map, filter, slice_index, slice_index_or, slice_set, All, AllPairs}
+use Rattle.std.specs.List.Sorted.{IsStrictlyIncreasing}
 use Rattle.tdm_problem.specs.declared.solution.WireUse.{WireUse}
+use Rattle.tdm_problem.specs.declared.limits.TheConstants.{MAX_NETS}
 use Rattle.tdm_problem.specs.Board.{Board}
 
 -- what a solution says: net by net, the uses of wires
@@ -28,3 +30,14 @@ pub record IsFor (board : Board) (routing : Routing) : Type 0 where
   pub nets : length routing ≡ length board.nets
   pub there : All (λ uses. All (λ u. u.wire < length board.wires) uses) routing
   pub distinct : All (λ uses. AllPairs (λ d e. d ≢ e) (wires_of uses)) routing
+
+-- for no more nets than a board may have, each net's wires rising strictly
+pub record HasRisingWires (routing : Routing) : Type 0 where
+  pub net_limit : length routing ≤ MAX_NETS
+  pub rising : All (λ uses. IsStrictlyIncreasing (wires_of uses)) routing
+
+-- the routing with this ratio at a place of net n
+abbrev pub with_ratio : Routing → ℕ → ℕ → ℕ → Routing
+with_ratio routing n place ratio =
+    let uses : List WireUse = uses_of routing n in
+    slice_set routing n (slice_set uses place (record { wire = slice_index (wires_of uses) place; ratio = ratio }))

@@ -2,12 +2,18 @@
 //! which solutions are legal and what they are worth.
 #![tactic(auto)]
 
+mod firsts;
 mod limits;
+mod problem;
+mod rows;
 mod solution;
+#[cfg(test)]
+mod tests;
+mod trees;
 mod wire;
 
-pub use limits::{
-    MAX_FPGAS, MAX_GROUPS, MAX_LISTED_FPGAS, MAX_LISTED_NETS, MAX_NETS, MAX_WIRES,
-};
-pub use solution::WireUse;
+pub use limits::{MAX_FPGAS, MAX_GROUPS, MAX_LISTED_FPGAS, MAX_LISTED_NETS, MAX_NETS, MAX_WIRES};
+pub use problem::{Problem, ProblemDraft};
+pub use solution::{Solution, WireUse};
+pub use trees::Trees;
 pub use wire::Wire;
