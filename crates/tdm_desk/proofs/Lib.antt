@@ -1,0 +1,9 @@
+pub mod SlotLaws
+pub mod FileLaws
+pub mod CountLaws
+pub mod SeenLaws
+pub mod StepLaws
+pub mod LoadLaws
+pub mod FileTableLaws
+pub mod MemoryLaws
+pub mod RealLaws

@@ -1,0 +1,280 @@
+-- What a caller sees after each call of a desk: its files, what was said, the rests and the open slots.
+use Rattle.std.proofs.Common.{is_some, ◌≡◌, ℕ, ◌+◌, true, [], ◌++◌, refl, sym, ap, ◌∙◌, append_assoc, drop, length, take, arith, inr}
+use Rattle.std.proofs.lemmas.List.{append-nil, drop-drop, take_all}
+use Rattle.std.specs.Prelude.{Option, Some, None, option_map}
+use Rattle.tdm_desk.specs.declared.slots.InSlot.{InSlot}
+use Rattle.tdm_desk.specs.declared.slots.OutSlot.{OutSlot}
+use Rattle.tdm_desk.specs.Slots.{at, put, input_place, output_place}
+use Rattle.tdm_desk.specs.Files.{Bytes, Name, Files, bytes_under, with_file}
+use Rattle.tdm_desk.specs.Seen.{Told, Seen, opened, input_closed, taken, created, output_closed, with_output, written, said, input_is_open, output_is_open, files_of, rest_of, said_of, HasFile, MayHavePrefix, HasSaid, HasSaidPrefix, PrefixSaid, PrefixWritten, tells}
+use Rattle.tdm_desk.proofs.SlotLaws.{at-put, put-put, put-at}
+use Rattle.tdm_desk.proofs.FileLaws.{with_more-with_file, with_more-nothing, with_more-with_more}
+
+map-map : {A B C : Type 0} (f : A → B) (g : B → C) (h : A → C) (o : Option A) → ((a : A) → g (f a) ≡ h a) → option_map g (option_map f o) ≡ option_map h o
+map-map f g h None same = refl
+map-map f g h (Some a) same = ap Some (same a)
+
+-- ---- the files
+
+pub files-opened : (slot : InSlot) (name : Name) (s : Seen) → files_of (opened slot name s) ≡ files_of s
+unfolding files_of opened
+files-opened slot name s = map-map _ _ _ s.told (λ t. refl)
+
+pub files-input_closed : (slot : InSlot) (s : Seen) → files_of (input_closed slot s) ≡ files_of s
+unfolding files_of input_closed
+files-input_closed slot s = map-map _ _ _ s.told (λ t. refl)
+
+pub files-taken : (slot : InSlot) (count : ℕ) (s : Seen) → files_of (taken slot count s) ≡ files_of s
+unfolding files_of taken
+files-taken slot count s = map-map _ _ _ s.told (λ t. refl)
+
+pub files-said : (bytes : Bytes) (s : Seen) → files_of (said bytes s) ≡ files_of s
+unfolding files_of said
+files-said bytes s = map-map _ _ _ s.told (λ t. refl)
+
+pub files-output_closed : (slot : OutSlot) (s : Seen) → files_of (output_closed slot s) ≡ files_of s
+unfolding files_of output_closed
+files-output_closed slot s = map-map _ _ _ s.told (λ t. refl)
+
+-- a created file is empty
+pub files-created : (slot : OutSlot) (name : Name) (s : Seen) → files_of (created slot name s) ≡ option_map (with_file name []) (files_of s)
+unfolding files_of created
+files-created slot name s =
+    map-map _ _ (λ (t : Told). with_file name [] t.files) s.told (λ t. refl)
+    ∙ sym (map-map (λ (t : Told). t.files) (with_file name []) _ s.told (λ t. refl))
+
+-- a created file to which bytes were written has just these
+pub files-written-created : (slot : OutSlot) (bytes : Bytes) (name : Name) (s : Seen) → files_of (written slot bytes (created slot name s)) ≡ option_map (with_file name bytes) (files_of s)
+unfolding files_of written created with_output
+files-written-created slot bytes name s = by s.told
+  where
+    by : (o : Option Told) → files_of (written slot bytes (created slot name (record s { told = o }))) ≡ option_map (with_file name bytes) (files_of (record s { told = o }))
+    by None = refl
+    by (Some t) =
+        ap (λ n. Some (with_output n bytes (with_file name [] t.files))) (at-put (output_place slot) (Some name) t.names)
+        ∙ ap Some (with_more-with_file name [] bytes t.files)
+
+-- ---- what was said
+
+pub said-opened : (slot : InSlot) (name : Name) (s : Seen) → said_of (opened slot name s) ≡ said_of s
+unfolding said_of opened
+said-opened slot name s = map-map _ _ _ s.told (λ t. refl)
+
+pub said-input_closed : (slot : InSlot) (s : Seen) → said_of (input_closed slot s) ≡ said_of s
+unfolding said_of input_closed
+said-input_closed slot s = map-map _ _ _ s.told (λ t. refl)
+
+pub said-taken : (slot : InSlot) (count : ℕ) (s : Seen) → said_of (taken slot count s) ≡ said_of s
+unfolding said_of taken
+said-taken slot count s = map-map _ _ _ s.told (λ t. refl)
+
+pub said-created : (slot : OutSlot) (name : Name) (s : Seen) → said_of (created slot name s) ≡ said_of s
+unfolding said_of created
+said-created slot name s = map-map _ _ _ s.told (λ t. refl)
+
+pub said-written : (slot : OutSlot) (bytes : Bytes) (s : Seen) → said_of (written slot bytes s) ≡ said_of s
+unfolding said_of written
+said-written slot bytes s = map-map _ _ _ s.told (λ t. refl)
+
+pub said-output_closed : (slot : OutSlot) (s : Seen) → said_of (output_closed slot s) ≡ said_of s
+unfolding said_of output_closed
+said-output_closed slot s = map-map _ _ _ s.told (λ t. refl)
+
+-- more was said
+pub said-said : (bytes : Bytes) (s : Seen) → said_of (said bytes s) ≡ option_map (λ before. before ++ bytes) (said_of s)
+unfolding said_of said
+said-said bytes s =
+    map-map _ _ (λ (t : Told). t.said ++ bytes) s.told (λ t. refl)
+    ∙ sym (map-map (λ (t : Told). t.said) (λ before. before ++ bytes) _ s.told (λ t. refl))
+
+-- ---- the rests
+
+-- an opened input gives the bytes of its file
+pub rest-opened : (slot : InSlot) (name : Name) (s : Seen) → rest_of slot (opened slot name s) ≡ option_map (bytes_under name) (files_of s)
+unfolding rest_of opened files_of
+rest-opened slot name s =
+    map-map _ _ (λ (t : Told). bytes_under name t.files) s.told (λ t. at-put (input_place slot) _ _)
+    ∙ sym (map-map (λ (t : Told). t.files) (bytes_under name) _ s.told (λ t. refl))
+
+pub rest-taken : (slot : InSlot) (count : ℕ) (s : Seen) → rest_of slot (taken slot count s) ≡ option_map (drop count) (rest_of slot s)
+unfolding rest_of taken
+rest-taken slot count s =
+    map-map _ _ (λ (t : Told). drop count (at (input_place slot) t.rests)) s.told (λ t. at-put (input_place slot) _ _)
+    ∙ sym (map-map (λ (t : Told). at (input_place slot) t.rests) (drop count) _ s.told (λ t. refl))
+
+-- ---- the open slots
+
+pub input_is_open-opened : (slot : InSlot) (name : Name) (s : Seen) → input_is_open slot (opened slot name s) ≡ true
+unfolding input_is_open opened
+input_is_open-opened slot name s = at-put (input_place slot) true s.inputs
+
+pub input_is_open-taken : (slot other : InSlot) (count : ℕ) (s : Seen) → input_is_open slot (taken other count s) ≡ input_is_open slot s
+unfolding input_is_open taken
+input_is_open-taken slot other count s = refl
+
+pub output_is_open-created : (slot : OutSlot) (name : Name) (s : Seen) → output_is_open slot (created slot name s) ≡ true
+unfolding output_is_open created
+output_is_open-created slot name s = at-put (output_place slot) true s.outputs
+
+pub output_is_open-written : (slot other : OutSlot) (bytes : Bytes) (s : Seen) → output_is_open slot (written other bytes s) ≡ output_is_open slot s
+unfolding output_is_open written
+output_is_open-written slot other bytes s = refl
+
+pub output_is_open-said : (slot : OutSlot) (bytes : Bytes) (s : Seen) → output_is_open slot (said bytes s) ≡ output_is_open slot s
+unfolding output_is_open said
+output_is_open-said slot bytes s = refl
+
+-- ---- several steps as one
+
+mapped : {A : Type 0} (f g : A → A) (o : Option A) → ((a : A) → f a ≡ g a) → option_map f o ≡ option_map g o
+mapped f g None same = refl
+mapped f g (Some a) same = ap Some (same a)
+
+unchanged : {A : Type 0} (f : A → A) (o : Option A) → ((a : A) → f a ≡ a) → option_map f o ≡ o
+unchanged f None same = refl
+unchanged f (Some a) same = ap Some (same a)
+
+pub taken-none : (slot : InSlot) (s : Seen) → taken slot 0 s ≡ s
+unfolding taken
+taken-none slot s = ap (λ o. record s { told = o }) (unchanged _ s.told (λ t. ap (λ r. record t { rests = r }) (put-at (input_place slot) t.rests)))
+
+pub taken-taken : (slot : InSlot) (a b : ℕ) (s : Seen) → taken slot b (taken slot a s) ≡ taken slot (a + b) s
+unfolding taken
+taken-taken slot a b s = ap (λ o. record s { told = o }) (map-map _ _ _ s.told (λ t. ap (λ r. record t { rests = r }) (
+    put-put (input_place slot) _ _ t.rests
+    ∙ ap (λ rest. put (input_place slot) (drop b rest) t.rests) (at-put (input_place slot) _ t.rests)
+    ∙ ap (λ rest. put (input_place slot) rest t.rests) (drop-drop b a (at (input_place slot) t.rests)))))
+
+pub written-nothing : (slot : OutSlot) (s : Seen) → written slot [] s ≡ s
+unfolding written with_output
+written-nothing slot s = ap (λ o. record s { told = o }) (unchanged _ s.told (λ t. ap (λ f. record t { files = f }) (by (at (output_place slot) t.names) t.files)))
+  where
+    by : (name : Option Name) (files : Files) → with_output name [] files ≡ files
+    by None files = refl
+    by (Some name) files = with_more-nothing name files
+
+pub written-written : (slot : OutSlot) (a b : Bytes) (s : Seen) → written slot b (written slot a s) ≡ written slot (a ++ b) s
+unfolding written with_output
+written-written slot a b s = ap (λ o. record s { told = o }) (map-map _ _ _ s.told (λ t. ap (λ f. record t { files = f }) (by (at (output_place slot) t.names) t.files)))
+  where
+    by : (name : Option Name) (files : Files) → with_output name b (with_output name a files) ≡ with_output name (a ++ b) files
+    by None files = refl
+    by (Some name) files = with_more-with_more name a b files
+
+pub said-nothing : (s : Seen) → said [] s ≡ s
+unfolding said
+said-nothing s = ap (λ o. record s { told = o }) (unchanged _ s.told (λ t. ap (λ b. record t { said = b }) (append-nil t.said)))
+
+pub said-both : (a b : Bytes) (s : Seen) → said b (said a s) ≡ said (a ++ b) s
+unfolding said
+said-both a b s = ap (λ o. record s { told = o }) (map-map _ _ _ s.told (λ t. ap (λ c. record t { said = c }) (append_assoc t.said a b)))
+
+-- ---- whether the desk tells
+
+is_some-map : {A B : Type 0} (f : A → B) (o : Option A) → is_some (option_map f o) ≡ is_some o
+is_some-map f None = refl
+is_some-map f (Some a) = refl
+
+-- a desk tells its files and what was said, or neither
+pub is_some-files : (s : Seen) → is_some (files_of s) ≡ tells s
+unfolding files_of tells
+is_some-files s = is_some-map _ s.told
+
+pub is_some-said : (s : Seen) → is_some (said_of s) ≡ tells s
+unfolding said_of tells
+is_some-said s = is_some-map _ s.told
+
+pub is_some-rest : (slot : InSlot) (s : Seen) → is_some (rest_of slot s) ≡ tells s
+unfolding rest_of tells
+is_some-rest slot s = is_some-map _ s.told
+
+pub tells-opened : (slot : InSlot) (name : Name) (s : Seen) → tells (opened slot name s) ≡ tells s
+unfolding tells opened
+tells-opened slot name s = is_some-map _ s.told
+
+pub tells-input_closed : (slot : InSlot) (s : Seen) → tells (input_closed slot s) ≡ tells s
+unfolding tells input_closed
+tells-input_closed slot s = is_some-map _ s.told
+
+pub tells-taken : (slot : InSlot) (count : ℕ) (s : Seen) → tells (taken slot count s) ≡ tells s
+unfolding tells taken
+tells-taken slot count s = is_some-map _ s.told
+
+pub tells-created : (slot : OutSlot) (name : Name) (s : Seen) → tells (created slot name s) ≡ tells s
+unfolding tells created
+tells-created slot name s = is_some-map _ s.told
+
+pub tells-output_closed : (slot : OutSlot) (s : Seen) → tells (output_closed slot s) ≡ tells s
+unfolding tells output_closed
+tells-output_closed slot s = is_some-map _ s.told
+
+pub tells-written : (slot : OutSlot) (bytes : Bytes) (s : Seen) → tells (written slot bytes s) ≡ tells s
+unfolding tells written
+tells-written slot bytes s = is_some-map _ s.told
+
+pub tells-said : (bytes : Bytes) (s : Seen) → tells (said bytes s) ≡ tells s
+unfolding tells said
+tells-said bytes s = is_some-map _ s.told
+
+-- ---- what a caller promises
+
+pub whole_prefix : (name : Name) (bytes : Bytes) (before after : Option Files) → HasFile name bytes before after → MayHavePrefix name bytes before after
+whole_prefix name bytes before after is = inr (length bytes, is ∙ ap (λ b. option_map (with_file name b) before) (sym (take_all (length bytes) bytes (omega arith))))
+
+pub whole_said : (bytes : Bytes) (before after : Option Bytes) → HasSaid bytes before after → HasSaidPrefix bytes before after
+whole_said bytes before after is = (length bytes, is ∙ ap (λ b. option_map (λ earlier. earlier ++ b) before) (sym (take_all (length bytes) bytes (omega arith))))
+
+-- an output was created, written and closed
+pub file_finished : (slot : OutSlot) (name : Name) (bytes : Bytes) (before first second after : Seen)
+    → first ≡ created slot name before → second ≡ written slot bytes first → after ≡ output_closed slot second
+    → HasFile name bytes (files_of before) (files_of after)
+file_finished slot name bytes before first second after is-created is-written is-closed =
+    ap files_of is-closed
+    ∙ files-output_closed slot second
+    ∙ ap files_of (is-written ∙ ap (written slot bytes) is-created)
+    ∙ files-written-created slot bytes name before
+
+-- a prefix was said
+pub prefix_said : (bytes : Bytes) (before after : Seen) → PrefixSaid bytes before after → HasSaidPrefix bytes (said_of before) (said_of after)
+prefix_said bytes before after is = (is.0, ap said_of is.1 ∙ said-said (take is.0 bytes) before)
+
+-- an output was created, and a prefix was written
+pub prefix_written : (slot : OutSlot) (name : Name) (bytes : Bytes) (before first after : Seen)
+    → first ≡ created slot name before → PrefixWritten slot bytes first after
+    → MayHavePrefix name bytes (files_of before) (files_of after)
+prefix_written slot name bytes before first after is-created is =
+    inr (is.0, ap files_of (is.1 ∙ ap (written slot (take is.0 bytes)) is-created) ∙ files-written-created slot (take is.0 bytes) name before)
+
+as_before : (before : Option Bytes) → option_map (λ (earlier : Bytes). earlier ++ []) before ≡ before
+as_before before = unchanged (λ (earlier : Bytes). earlier ++ []) before append-nil
+
+pub nothing_said : (bytes : Bytes) (before after : Option Bytes) → after ≡ before → HasSaidPrefix bytes before after
+nothing_said bytes before after is = (0, is ∙ sym (as_before before))
+
+-- what a call leaves of the files, of what was said, and of the open slots
+pub ruleset after_calls = (
+  files-opened,
+  files-input_closed,
+  files-taken,
+  files-said,
+  files-output_closed,
+  files-created,
+  files-written-created,
+  said-opened,
+  said-input_closed,
+  said-taken,
+  said-created,
+  said-written,
+  said-output_closed,
+  said-said,
+  rest-opened,
+  rest-taken,
+  input_is_open-opened,
+  input_is_open-taken,
+  output_is_open-created,
+  output_is_open-written,
+  output_is_open-said,
+  whole_prefix,
+  whole_said,
+  nothing_said,
+)

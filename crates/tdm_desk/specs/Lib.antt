@@ -1,0 +1,7 @@
+pub mod Files
+pub mod Slots
+pub mod Seen
+pub mod Counts
+pub mod FileTable
+pub mod Memory
+pub mod RealDesk
