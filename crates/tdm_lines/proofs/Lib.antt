@@ -1,0 +1,7 @@
+pub mod AppendLemmas
+pub mod LineSteps
+pub mod PieceSteps
+pub mod ScanSteps
+pub mod TextLemmas
+pub mod TokenLemmas
+pub mod WrittenLemmas

@@ -1,0 +1,17 @@
+//! Lines, tokens and decimal numbers of a text.
+//!
+//! A text is cut at each line feed into pieces, which are numbered from 1. The tokens of a piece are
+//! its runs of bytes other than space, tab and carriage return. A piece with a token is a line, and
+//! keeps its number.
+#![tactic(auto)]
+
+mod cursor;
+mod digits;
+mod line;
+mod scan;
+#[cfg(test)]
+mod tests;
+
+pub use cursor::{FoundLine, LineCursor};
+pub use digits::{Digits, decimal};
+pub use line::{TokenFault, TokenLine, line_after, token_lines};

@@ -1,0 +1,112 @@
+ghost use Rattle.std.specs.Prelude.{◌≤◌, ◌^◌, length};
+
+use crate::{FoundLine, LineCursor, TokenFault, decimal, line_after, token_lines};
+use std::alloc::Global;
+use std::process::Abort;
+use std::test::Fail;
+
+// A line that is wanted: its number, its fault and its numbers.
+#[derive(Clone, Copy)]
+struct Wanted(u32, Option<TokenFault>, &'static [u64]);
+
+#[test]
+fn prints_numbers_without_leading_zeros(rt: HostRuntime) {
+    for (n, want) in [
+        (0u128, "0"),
+        (10, "10"),
+        (18_446_744_073_709_551_616, "18446744073709551616"),
+        (u128::MAX, "340282366920938463463374607431768211455"),
+    ] {
+        assert_eq!(rt; decimal(n).as_bytes(), want.as_bytes());
+    }
+}
+
+#[test]
+fn counts_the_line_after_a_text(rt: HostRuntime) {
+    assert_eq!(rt; line_after(b""), 1);
+    assert_eq!(rt; line_after(b"a\n"), 2);
+    assert_eq!(rt; line_after(b"\n\r\n\n1"), 4);
+}
+
+fn assert_lines(
+    rt: &impl Abort,
+    alloc: Global,
+    text: &[u8],
+    max: u64,
+    wanted: &[Wanted],
+) -> Result<(), Fail>
+    requires { length text.now ≤ 2 ^ 30 }
+{
+    let found = token_lines(alloc, text, max)?;
+    assert_eq!(rt; found.len(), wanted.len());
+    for (line, want) in found.iter().zip(wanted) {
+        assert_eq!(rt; line.number(), want.0);
+        assert!(rt; line.fault() == want.1, "line {}", want.0);
+        assert_eq!(rt; line.numbers(), want.2);
+    }
+    Ok(())
+}
+
+#[test]
+fn finds_lines_with_their_numbers_or_faults(rt: HostRuntime) -> Result<(), Fail> {
+    let bad = Some(TokenFault::BadNumber);
+    let large = Some(TokenFault::NumberTooLarge);
+    assert_lines(
+        &rt,
+        rt.alloc(),
+        b"1 02\r\n \nx",
+        4_294_967_295,
+        &[Wanted(1, None, &[1, 2]), Wanted(3, bad, &[])],
+    )?;
+    assert_lines(&rt, rt.alloc(), b"", 5, &[])?;
+    assert_lines(
+        &rt,
+        rt.alloc(),
+        b"\t5\n\n6\n9 -1\n1\x0b\n",
+        5,
+        &[
+            Wanted(1, None, &[5]),
+            Wanted(3, large, &[]),
+            Wanted(4, bad, &[]),
+            Wanted(5, bad, &[]),
+        ],
+    )?;
+    assert_lines(
+        &rt,
+        rt.alloc(),
+        b"18446744073709551615 0\n18446744073709551616\n99999999999999999999999999999999999999999",
+        u64::MAX,
+        &[
+            Wanted(1, None, &[u64::MAX, 0]),
+            Wanted(2, large, &[]),
+            Wanted(3, large, &[]),
+        ],
+    )
+}
+
+#[test]
+fn reads_one_line_at_a_time_into_one_buffer(rt: HostRuntime) -> Result<(), Fail> {
+    let mut cursor = LineCursor::new(b"1 2\n\n3\n", 9);
+    let mut numbers = Vec::new(rt.alloc());
+    let first = cursor.next_line(&mut numbers)?;
+    assert_eq!(rt;
+        first,
+        Some(FoundLine {
+            number: 1,
+            fault: None
+        })
+    );
+    assert_eq!(rt; numbers.as_slice(), [1, 2].as_slice());
+    let second = cursor.next_line(&mut numbers)?;
+    assert_eq!(rt;
+        second,
+        Some(FoundLine {
+            number: 3,
+            fault: None
+        })
+    );
+    assert_eq!(rt; numbers.as_slice(), [3].as_slice());
+    assert_eq!(rt; cursor.next_line(&mut numbers)?, None);
+    assert_eq!(rt; numbers.len(), 0);
+    Ok(())
+}
