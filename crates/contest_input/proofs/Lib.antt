@@ -1,0 +1,5 @@
+pub mod LineLemmas
+pub mod Progress
+pub mod WireProgress
+pub mod ListProgress
+pub mod WholeText

@@ -1,0 +1,54 @@
+//! The header of a board text.
+ghost use Rattle.std.specs.Prelude.{◌≡◌, IfOk, OnOk, IfErr, None};
+ghost use Rattle.contest_input.specs.declared.kind.BoardKind.TheVariants.{NoHeader};
+ghost use Rattle.contest_input.specs.Faults.{sizes_of, header_fault};
+ghost use Rattle.contest_input.specs.Sections.{next_refusal, next_numbers, after_line, IsFor};
+
+use crate::fault::{BoardFault, check_line};
+use crate::kind::BoardKind;
+use crate::source::Source;
+use tdm_problem::{MAX_FPGAS, MAX_GROUPS, MAX_NETS, MAX_WIRES};
+
+/// How many FPGAs, wires, nets and groups the header says there are.
+#[derive(Clone, Copy)]
+pub(crate) struct Sizes {
+    pub(crate) fpgas: u32,
+    pub(crate) wires: u32,
+    pub(crate) nets: u32,
+    pub(crate) groups: u32,
+}
+
+/// What is wrong with the numbers of a header.
+fn header_fault(numbers: &[u64]) -> Option<BoardKind>
+    ensures { result ≡ header_fault numbers.now }
+{
+    if numbers.len() != 4 {
+        return Some(BoardKind::WrongCount);
+    }
+    if numbers[0] > u64::from(MAX_FPGAS)
+        || numbers[1] > u64::from(MAX_WIRES)
+        || numbers[2] > u64::from(MAX_NETS)
+        || numbers[3] > u64::from(MAX_GROUPS)
+    {
+        return Some(BoardKind::CountLimit);
+    }
+    None
+}
+
+/// Reads the header.
+pub(crate) fn read_header(source: &mut Source<'_>) -> Result<Sizes, BoardFault>
+    ensures clean { OnOk result (next_refusal NoHeader header_fault source.old.end source.old.lines ≡ None) }
+    ensures sizes { IfOk result (λ sizes. sizes ≡ sizes_of (next_numbers source.old.lines)) }
+    ensures rest { OnOk result (source.new ≡ after_line source.old) }
+    ensures err { IfErr result (IsFor (next_refusal NoHeader header_fault source.old.end source.old.lines)) }
+{
+    let line = source.next_line(BoardKind::NoHeader)?;
+    let numbers = source.numbers();
+    check_line(header_fault(numbers), line)?;
+    Ok(Sizes {
+        fpgas: numbers[0] as u32,
+        wires: numbers[1] as u32,
+        nets: numbers[2] as u32,
+        groups: numbers[3] as u32,
+    })
+}

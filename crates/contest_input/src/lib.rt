@@ -1,0 +1,26 @@
+//! The text of a board: its wires, nets and groups, or the first thing that is wrong with it.
+#![tactic(auto)]
+
+mod fault;
+mod groups;
+mod header;
+mod kind;
+mod law;
+mod lists;
+mod nets;
+mod read;
+mod source;
+#[cfg(test)]
+mod tests;
+mod wires;
+
+pub use fault::{BoardFault, BoardRefusal};
+pub use kind::BoardKind;
+pub use law::a_cut_text_says_the_same;
+pub use read::read_board;
+
+/// The most bytes of a board text.
+pub const MAX_BOARD_BYTES: usize = 268_435_456;
+
+/// The largest number that a board text may hold.
+pub const MAX_BOARD_NUMBER: u64 = 4_294_967_295;

@@ -1,0 +1,127 @@
+//! Board texts that are read, and board texts that are refused.
+use crate::{BoardFault, BoardKind, BoardRefusal, MAX_BOARD_BYTES, read_board};
+use std::alloc::Global;
+use std::process::Abort;
+use std::test::Fail;
+use tdm_problem::{Problem, ProblemDraft, Wire};
+
+// The smallest board on which a net uses a wire.
+const PAIR: &[u8] = b"2 1 1 1\n0 1\n0 1\n0\n";
+
+fn read(rt: &impl Abort, alloc: Global, text: &[u8]) -> Result<Problem, BoardFault> {
+    assert!(rt; text.len() <= MAX_BOARD_BYTES + 1);
+    read_board(alloc, text)
+}
+
+fn refusal(rt: &impl Abort, alloc: Global, text: &[u8]) -> Option<BoardRefusal> {
+    match read(rt, alloc, text) {
+        Err(BoardFault::Refused(refusal)) => Some(refusal),
+        _ => None,
+    }
+}
+
+// A board of two FPGAs with one wire between them, one net on both, and one group of that net.
+fn assert_pair(rt: &impl Abort, problem: &Problem) {
+    assert_eq!(rt; problem.fpgas(), 2);
+    assert_eq!(rt; problem.wires(), 1);
+    assert_eq!(rt; problem.nets(), 1);
+    assert_eq!(rt; problem.groups(), 1);
+    assert_eq!(rt; problem.wire(0), Wire { a: 0, b: 1 });
+    assert_eq!(rt; problem.net(0), [0, 1].as_slice());
+    assert_eq!(rt; problem.group(0), [0].as_slice());
+}
+
+#[test]
+fn a_text_is_read_whatever_its_blanks_and_leading_zeros(rt: HostRuntime) -> Result<(), Fail> {
+    for text in [
+        PAIR,
+        b"2 1 1 1\r\n0 1\r\n\r\n \r\n0 1\r\n0",
+        b"002 1 01 1\n0 1\n0 1\n0\n",
+        b"2 1 1 1\n0 1\n0 1\n0 0\n",
+        b"\n\t2 1  1 1 \n0 1\n0 1 0\n0\n\n",
+    ] {
+        assert_pair(&rt, &read(&rt, rt.alloc(), text)?);
+    }
+    Ok(())
+}
+
+#[test]
+fn a_pushed_board_is_the_one_that_is_read(rt: HostRuntime) -> Result<(), Fail> {
+    let mut draft = ProblemDraft::new(rt.alloc(), 2);
+    draft.push_wire(Wire { a: 0, b: 1 })?;
+    draft.push_net(&[0, 1])?;
+    draft.push_group(&[0])?;
+    assert_pair(&rt, &draft.into_problem());
+    assert_pair(&rt, &read_board(rt.alloc(), PAIR)?);
+    Ok(())
+}
+
+#[test]
+fn a_repeated_fpga_counts_once(rt: HostRuntime) -> Result<(), Fail> {
+    let problem = read(&rt, rt.alloc(), b"2 1 1 1\n0 1\n1 1 1\n0\n")?;
+    assert_eq!(rt; problem.nets(), 1);
+    assert_eq!(rt; problem.net(0), [1].as_slice());
+    let none = read(&rt, rt.alloc(), b"0 0 0 0\n")?;
+    assert_eq!(rt;
+        (none.fpgas(), none.wires(), none.nets(), none.groups()),
+        (0, 0, 0, 0)
+    );
+    Ok(())
+}
+
+#[test]
+fn the_first_fault_is_told_with_its_line(rt: HostRuntime) {
+    for (text, kind, line) in [
+        (b"2 1 1 1\n0 1\n0 1\n".as_slice(), BoardKind::MissingLine, 4),
+        (b"2 1 1 1\n0 1\n0 1\n0\n0\n", BoardKind::ExtraLine, 5),
+        (b"4294967296 0 0 0\n", BoardKind::NumberTooLarge, 1),
+        (b"3 1 0 0\n2 2\n", BoardKind::SelfLoop, 2),
+        (b"2 1 0 0\n2 2\n", BoardKind::UnknownFpga, 2),
+        (b"", BoardKind::NoHeader, 1),
+        (b" \n\t\n", BoardKind::NoHeader, 3),
+        (b"4097 0 0 0\n", BoardKind::CountLimit, 1),
+        (b"2 1 1 1\n0 x\n", BoardKind::BadNumber, 2),
+        (b"2 1 1\n", BoardKind::WrongCount, 1),
+        (b"2 1 1 1\n0 1\n0 1\n1\n", BoardKind::UnknownNet, 4),
+        (b"2 1 1 1\n0 1\n0 2\n", BoardKind::UnknownFpga, 3),
+        (b"2 1 1 1\n\n0 1 0\n", BoardKind::WrongCount, 3),
+        (b"0 0 0 0\nx", BoardKind::ExtraLine, 2),
+    ] {
+        let wanted = BoardRefusal { kind, line };
+        let told = refusal(&rt, rt.alloc(), text);
+        assert!(rt; told == Some(wanted), "{} in line {line}", kind.name());
+    }
+}
+
+#[test]
+fn the_numbers_of_all_nets_are_limited(rt: HostRuntime) -> Result<(), Fail> {
+    let mut text = Vec::new(rt.alloc());
+    text.extend_from_slice(b"1 0 1 0\n")?;
+    for _ in 0..16_777_216u32 {
+        text.extend_from_slice(b"0 ")?;
+    }
+    let problem = read(&rt, rt.alloc(), &text)?;
+    assert_eq!(rt; problem.nets(), 1);
+    assert_eq!(rt; problem.net(0), [0].as_slice());
+    text.push(b'0')?;
+    let wanted = BoardRefusal {
+        kind: BoardKind::TotalLimit,
+        line: 2,
+    };
+    assert!(rt; refusal(&rt, rt.alloc(), &text) == Some(wanted));
+    Ok(())
+}
+
+#[test]
+fn the_length_of_a_text_is_limited(rt: HostRuntime) -> Result<(), Fail> {
+    let text = vec![in rt.alloc(); b' '; MAX_BOARD_BYTES + 1]?;
+    for (length, kind, line) in [
+        (MAX_BOARD_BYTES, BoardKind::NoHeader, 1),
+        (MAX_BOARD_BYTES + 1, BoardKind::TooLong, 0),
+    ] {
+        assert!(rt; length <= text.len());
+        let wanted = BoardRefusal { kind, line };
+        assert!(rt; refusal(&rt, rt.alloc(), &text[..length]) == Some(wanted));
+    }
+    Ok(())
+}
