@@ -1,0 +1,9 @@
+//! The FPGAs and wires of a board as a graph, with the wires at each FPGA side by side in memory.
+#![tactic(auto)]
+
+mod graph;
+mod neighbour;
+mod rows;
+
+pub use graph::BoardGraph;
+pub use neighbour::Neighbour;
