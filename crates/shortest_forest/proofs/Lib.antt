@@ -1,0 +1,9 @@
+pub mod BaselineLaws
+pub mod NeighbourLaws
+pub mod SearchLaws
+pub mod SameBoard
+pub mod HopLaws
+pub mod PassLaws
+pub mod Forests
+pub mod ClimbLaws
+pub mod Connected

@@ -1,0 +1,4 @@
+pub mod Baseline
+pub mod Reach
+pub mod Search
+pub mod Climb
