@@ -1,0 +1,3 @@
+pub mod UniformLaws
+pub mod UniformIsLegal
+pub mod UniformSteps
