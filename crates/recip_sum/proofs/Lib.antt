@@ -1,0 +1,10 @@
+pub mod Turns
+pub mod Digits
+pub mod Undecided
+pub mod Started
+pub mod Same
+pub mod Items
+pub mod Views
+pub mod Fractions
+pub mod Changes
+pub mod CountLaws

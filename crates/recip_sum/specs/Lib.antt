@@ -1,0 +1,4 @@
+pub mod Counts
+pub mod Items
+pub mod LongDivision
+pub mod Kept

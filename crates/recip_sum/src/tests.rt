@@ -1,0 +1,50 @@
+//! Worked examples of the counts and of the exact test.
+
+use crate::Counts;
+use std::alloc::{AllocError, Global};
+use std::process::Abort;
+
+fn counts_of(rt: &impl Abort, alloc: Global, ratios: &[u32]) -> Result<Counts, AllocError> {
+    let mut counts = Counts::new(alloc);
+    for &ratio in ratios {
+        assert!(rt; ratio > 0 && counts.items() < 1 << 20);
+        counts.add(ratio)?;
+    }
+    Ok(counts)
+}
+
+#[test]
+fn counts_items_and_different_ratios(rt: HostRuntime) -> Result<(), AllocError> {
+    let mut counts = counts_of(&rt, rt.alloc(), &[6, 2, 6, 6])?;
+    assert_eq!(rt; (counts.items(), counts.distinct()), (4, 2));
+    counts.clear();
+    assert_eq!(rt; (counts.items(), counts.distinct()), (0, 0));
+    Ok(())
+}
+
+#[test]
+fn compares_the_sum_of_reciprocals_exactly(rt: HostRuntime) -> Result<(), AllocError> {
+    let none: &[u32] = &[];
+    for (ratios, lanes, fits) in [
+        (none, 1, true),
+        (&[2, 6, 6, 6], 1, true),
+        (&[2, 2, 4294967294], 1, false),
+        (&[2, 2, 4294967294], 2, true),
+        (&[2, 2, 2], 1, false),
+        (&[1], 1, true),
+    ] {
+        let mut counts = counts_of(&rt, rt.alloc(), ratios)?;
+        assert_eq!(rt; counts.fits_lanes(lanes), fits);
+    }
+    Ok(())
+}
+
+#[test]
+fn an_item_taken_away_leaves_the_others(rt: HostRuntime) -> Result<(), AllocError> {
+    let mut counts = counts_of(&rt, rt.alloc(), &[6, 2, 6])?;
+    assert!(rt; counts.items() < 1 << 20);
+    counts.add(2)?;
+    counts.remove(2);
+    assert_eq!(rt; (counts.items(), counts.distinct()), (3, 2));
+    Ok(())
+}
