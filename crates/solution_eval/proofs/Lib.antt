@@ -1,0 +1,10 @@
+pub mod Along
+pub mod BadUses
+pub mod Counting
+pub mod Cuts
+pub mod Filtered
+pub mod Joining
+pub mod Reaching
+pub mod Spreading
+pub mod Sums
+pub mod VerdictLaws

@@ -1,0 +1,16 @@
+//! Judging solutions: whether they are legal, and what they are worth.
+#![tactic(auto)]
+
+mod bad_use;
+mod joined;
+mod judgement;
+mod overfull;
+mod spread;
+mod steps;
+mod worth;
+
+pub use judgement::{Verdict, judge};
+pub use worth::value;
+
+#[cfg(test)]
+mod tests;
