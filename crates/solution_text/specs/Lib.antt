@@ -1,0 +1,8 @@
+pub mod Kinds
+pub mod Text
+pub mod Reading
+pub mod Fault
+pub mod Steps
+pub mod Reader
+pub mod Writing
+pub mod Sayable

@@ -1,0 +1,75 @@
+//! Why a text is no solution.
+ghost use Rattle.std.specs.Prelude.{◌≡◌};
+ghost use Rattle.solution_text.specs.Kinds.{name_of};
+ghost use Rattle.solution_text.specs.declared.refusal.SolutionFault.TheVariants.{NoMemory};
+
+use std::alloc::AllocError;
+use thiserror::Error;
+
+/// What is wrong with a text that is no solution. On one line, the earlier kind is named.
+#[derive(Clone, Copy, Debug, PartialEq, Eq)]
+pub enum SolutionKind {
+    /// Some token of the line is not one or more decimal digits.
+    BadNumber,
+    /// Some number of the line is above 4,294,967,295.
+    NumberTooLarge,
+    /// A line that counts uses has not one number, or a line of a use has not two.
+    WrongCount,
+    /// The wire of a use is no wire of the board.
+    UnknownWire,
+    /// The wire of a use stood on an earlier line of the same net.
+    RepeatedWire,
+    /// The text ends before the last line of the last net.
+    MissingLine,
+    /// A line stands after the last line of the last net.
+    ExtraLine,
+    /// The text has more than 2^30 bytes.
+    TooLong,
+}
+
+impl SolutionKind {
+    /// The kind's name, as reports print it.
+    pub fn name(self) -> &'static str
+        ensures { result.now ≡ name_of self }
+    {
+        match self {
+            SolutionKind::BadNumber => "BadNumber",
+            SolutionKind::NumberTooLarge => "NumberTooLarge",
+            SolutionKind::WrongCount => "WrongCount",
+            SolutionKind::UnknownWire => "UnknownWire",
+            SolutionKind::RepeatedWire => "RepeatedWire",
+            SolutionKind::MissingLine => "MissingLine",
+            SolutionKind::ExtraLine => "ExtraLine",
+            SolutionKind::TooLong => "TooLong",
+        }
+    }
+}
+
+/// What is wrong with a text, and on which line.
+///
+/// Lines are numbered from 1. A missing line is named by the number of line feeds plus 1, and a text that is too
+/// long by 0.
+#[derive(Clone, Copy, Debug, PartialEq, Eq)]
+pub struct SolutionRefusal {
+    pub kind: SolutionKind,
+    pub line: u32,
+}
+
+/// Why reading a solution gave none.
+#[derive(Clone, Copy, Debug, PartialEq, Eq, Error)]
+pub enum SolutionFault {
+    /// The text is no solution for the board.
+    #[error("the solution text is refused")]
+    Refused(SolutionRefusal),
+    /// Memory was wanting.
+    #[error("memory was wanting")]
+    NoMemory,
+}
+
+impl From<AllocError> for SolutionFault {
+    ghost from_gives = { λ _ fault. fault ≡ NoMemory };
+
+    fn from(_error: AllocError) -> SolutionFault {
+        SolutionFault::NoMemory
+    }
+}

@@ -1,0 +1,178 @@
+//! Writing the text of a solution.
+ghost use Rattle.std.specs.Prelude.{◌≡◌, ◌≤◌, [], ◌∷◌, ◌++◌, length, IsTrue, OnOk, OnErr, IsErrOf};
+ghost use Rattle.std.specs.List.{flat_map};
+ghost use Rattle.tdm_desk.specs.Seen.{output_is_open, written, PrefixWritten};
+ghost use Rattle.tdm_desk.specs.Counts.{CountsFaults, WritingFailed};
+ghost use Rattle.solution_text.specs.declared.pending.TheConstants.{ROOM};
+ghost use Rattle.solution_text.specs.Text.{use_line, net_text, solution_text};
+ghost use Rattle.solution_text.specs.Writing.{number_then, IsUnderWay};
+
+use crate::pending::{Pending, ROOM};
+use tdm_desk::{Desk, DeskFault, OutSlot, write_whole};
+use tdm_lines::decimal;
+use tdm_problem::{Solution, WireUse};
+
+/// Adds the text of a solution to the file of an open output: for each net, in order, a line with the number of its
+/// uses, and then for each use a line with the wire and the ratio. Without nets the text is empty.
+///
+/// It takes no memory of its own. After a fault a prefix of the text was added, and the slot stays open.
+#[tactic(auto, using(tdm_desk::proofs::SeenLaws::after_calls, tdm_desk::proofs::CountLaws::counting_faults))]
+pub fn write_solution<D: Desk>(
+    desk: &mut D,
+    slot: OutSlot,
+    solution: &Solution,
+) -> Result<(), DeskFault>
+    requires { IsTrue (output_is_open slot (D.seen desk.old)) }
+    ensures ok { OnOk result (D.seen desk.new ≡ written slot (solution_text solution.now) (D.seen desk.old)) }
+    ensures err { OnErr result (PrefixWritten slot (solution_text solution.now) (D.seen desk.old) (D.seen desk.new)) }
+    ensures failed { IsErrOf result DeskFault.Failed →
+        WritingFailed D.counts D.steady desk.old desk.new }
+    ensures counted { CountsFaults D.counts D.steady desk.old desk.new }
+{
+    let mut pending = Pending::new();
+    put_nets(desk, slot, &mut pending, solution)?;
+    flush(desk, slot, &mut pending)?;
+    Ok(())
+}
+
+// Writes what is pending.
+#[tactic(auto, using(tdm_desk::proofs::SeenLaws::after_calls, tdm_desk::proofs::CountLaws::counting_faults))]
+fn flush<D: Desk>(desk: &mut D, slot: OutSlot, pending: &mut Pending) -> Result<(), DeskFault>
+    requires { IsTrue (output_is_open slot (D.seen desk.old)) }
+    ensures ok { OnOk result (D.seen desk.new ≡ written slot pending.old (D.seen desk.old)) }
+    ensures emptied { OnOk result (pending.new ≡ []) }
+    ensures err { OnErr result (PrefixWritten slot pending.old (D.seen desk.old) (D.seen desk.new)) }
+    ensures failed { IsErrOf result DeskFault.Failed →
+        WritingFailed D.counts D.steady desk.old desk.new }
+    ensures counted { CountsFaults D.counts D.steady desk.old desk.new }
+{
+    write_whole(desk, slot, pending.as_slice())?;
+    pending.clear();
+    Ok(())
+}
+
+// Adds a piece to the text. Where there is no room for it, what is pending is written first.
+#[tactic(auto, using(tdm_desk::proofs::SeenLaws::after_calls, tdm_desk::proofs::CountLaws::counting_faults))]
+fn put<D: Desk>(
+    desk: &mut D,
+    slot: OutSlot,
+    pending: &mut Pending,
+    piece: &[u8],
+) -> Result<(), DeskFault>
+    requires open { IsTrue (output_is_open slot (D.seen desk.old)) }
+    requires short { length piece.now ≤ ROOM }
+    ensures ok { OnOk result (IsUnderWay slot (pending.old ++ piece.now) (D.seen desk.old) pending.new (D.seen desk.new)) }
+    ensures err { OnErr result (PrefixWritten slot (pending.old ++ piece.now) (D.seen desk.old) (D.seen desk.new)) }
+    ensures failed { IsErrOf result DeskFault.Failed →
+        WritingFailed D.counts D.steady desk.old desk.new }
+    ensures counted { CountsFaults D.counts D.steady desk.old desk.new }
+{
+    if pending.room() < piece.len() {
+        flush(desk, slot, pending)?;
+    }
+    pending.extend(piece);
+    Ok(())
+}
+
+// Adds a number to the text, and the byte behind it.
+#[tactic(auto, using(tdm_desk::proofs::SeenLaws::after_calls, tdm_desk::proofs::CountLaws::counting_faults))]
+fn put_number<D: Desk>(
+    desk: &mut D,
+    slot: OutSlot,
+    pending: &mut Pending,
+    number: u64,
+    end: u8,
+) -> Result<(), DeskFault>
+    requires { IsTrue (output_is_open slot (D.seen desk.old)) }
+    ensures ok { OnOk result (IsUnderWay slot (pending.old ++ number_then number end) (D.seen desk.old) pending.new (D.seen desk.new)) }
+    ensures err { OnErr result (PrefixWritten slot (pending.old ++ number_then number end) (D.seen desk.old) (D.seen desk.new)) }
+    ensures failed { IsErrOf result DeskFault.Failed →
+        WritingFailed D.counts D.steady desk.old desk.new }
+    ensures counted { CountsFaults D.counts D.steady desk.old desk.new }
+{
+    put(desk, slot, pending, decimal(number as u128).as_bytes())?;
+    put(desk, slot, pending, &[end])?;
+    Ok(())
+}
+
+// Adds the line of a use to the text.
+#[tactic(auto, using(tdm_desk::proofs::SeenLaws::after_calls, tdm_desk::proofs::CountLaws::counting_faults))]
+fn put_use<D: Desk>(
+    desk: &mut D,
+    slot: OutSlot,
+    pending: &mut Pending,
+    used: WireUse,
+) -> Result<(), DeskFault>
+    requires { IsTrue (output_is_open slot (D.seen desk.old)) }
+    ensures ok { OnOk result (IsUnderWay slot (pending.old ++ use_line used) (D.seen desk.old) pending.new (D.seen desk.new)) }
+    ensures err { OnErr result (PrefixWritten slot (pending.old ++ use_line used) (D.seen desk.old) (D.seen desk.new)) }
+    ensures failed { IsErrOf result DeskFault.Failed →
+        WritingFailed D.counts D.steady desk.old desk.new }
+    ensures counted { CountsFaults D.counts D.steady desk.old desk.new }
+{
+    put_number(desk, slot, pending, used.wire as u64, b' ')?;
+    put_number(desk, slot, pending, used.ratio as u64, b'\n')?;
+    Ok(())
+}
+
+// Adds the lines of uses to the text.
+#[tactic(auto, using(tdm_desk::proofs::SeenLaws::after_calls, tdm_desk::proofs::CountLaws::counting_faults))]
+fn put_uses<D: Desk>(
+    desk: &mut D,
+    slot: OutSlot,
+    pending: &mut Pending,
+    uses: &[WireUse],
+) -> Result<(), DeskFault>
+    requires { IsTrue (output_is_open slot (D.seen desk.old)) }
+    ensures ok { OnOk result (IsUnderWay slot (pending.old ++ flat_map use_line uses.now) (D.seen desk.old) pending.new (D.seen desk.new)) }
+    ensures err { OnErr result (PrefixWritten slot (pending.old ++ flat_map use_line uses.now) (D.seen desk.old) (D.seen desk.new)) }
+    ensures failed { IsErrOf result DeskFault.Failed →
+        WritingFailed D.counts D.steady desk.old desk.new }
+    ensures counted { CountsFaults D.counts D.steady desk.old desk.new }
+{
+    for used in uses {
+        put_use(desk, slot, pending, *used)?;
+    }
+    Ok(())
+}
+
+// Adds the lines of a net to the text.
+#[tactic(auto, using(tdm_desk::proofs::SeenLaws::after_calls, tdm_desk::proofs::CountLaws::counting_faults))]
+fn put_net<D: Desk>(
+    desk: &mut D,
+    slot: OutSlot,
+    pending: &mut Pending,
+    uses: &[WireUse],
+) -> Result<(), DeskFault>
+    requires { IsTrue (output_is_open slot (D.seen desk.old)) }
+    ensures ok { OnOk result (IsUnderWay slot (pending.old ++ net_text uses.now) (D.seen desk.old) pending.new (D.seen desk.new)) }
+    ensures err { OnErr result (PrefixWritten slot (pending.old ++ net_text uses.now) (D.seen desk.old) (D.seen desk.new)) }
+    ensures failed { IsErrOf result DeskFault.Failed →
+        WritingFailed D.counts D.steady desk.old desk.new }
+    ensures counted { CountsFaults D.counts D.steady desk.old desk.new }
+{
+    put_number(desk, slot, pending, uses.len() as u64, b'\n')?;
+    put_uses(desk, slot, pending, uses)?;
+    Ok(())
+}
+
+// Adds the lines of all nets to the text.
+#[tactic(auto, using(tdm_desk::proofs::SeenLaws::after_calls, tdm_desk::proofs::CountLaws::counting_faults))]
+fn put_nets<D: Desk>(
+    desk: &mut D,
+    slot: OutSlot,
+    pending: &mut Pending,
+    solution: &Solution,
+) -> Result<(), DeskFault>
+    requires { IsTrue (output_is_open slot (D.seen desk.old)) }
+    ensures ok { OnOk result (IsUnderWay slot (pending.old ++ solution_text solution.now) (D.seen desk.old) pending.new (D.seen desk.new)) }
+    ensures err { OnErr result (PrefixWritten slot (pending.old ++ solution_text solution.now) (D.seen desk.old) (D.seen desk.new)) }
+    ensures failed { IsErrOf result DeskFault.Failed →
+        WritingFailed D.counts D.steady desk.old desk.new }
+    ensures counted { CountsFaults D.counts D.steady desk.old desk.new }
+{
+    for net in 0..solution.nets() {
+        put_net(desk, slot, pending, solution.uses(net))?;
+    }
+    Ok(())
+}
