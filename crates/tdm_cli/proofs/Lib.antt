@@ -1,0 +1,6 @@
+pub mod ChangeLaws
+pub mod InputLaws
+pub mod EndsLaws
+pub mod ProgressLaws
+pub mod BaselineLaws
+pub mod PromiseLaws

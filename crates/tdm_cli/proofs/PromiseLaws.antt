@@ -1,0 +1,124 @@
+-- What the end of a run says of the files when it began.
+use Rattle.std.proofs.Common.{◌≡◌, ◌≢◌, ◌⊎◌, ℕ, ◌+◌, ◌<◌, ◌≤◌, List, [], ◌∷◌, ◌++◌, length, slice_index_or, refl, sym, ap, subst, ◌∙◌, inl, inr, arith, Contains}
+use Rattle.std.specs.Prelude.{Option, Some, None, Result, Ok, Err, option_map, sum_by}
+use Rattle.std.specs.FinMap.{get}
+use Rattle.tdm_desk.specs.Files.{Bytes, Name, Files, with_file}
+use Rattle.tdm_desk.specs.Seen.{Seen, files_of, said_of}
+use Rattle.tdm_problem.specs.Board.{Board}
+use Rattle.tdm_problem.specs.Routing.{Routing}
+use Rattle.tdm_problem.specs.Walk.{AnyWire, IsConnectable}
+use Rattle.tdm_problem.specs.Legal.{terminals_of}
+use Rattle.tdm_problem.specs.Trees.{tree_of, trees_of}
+use Rattle.contest_input.specs.declared.fault.BoardRefusal.{BoardRefusal}
+use Rattle.contest_input.specs.BoardText.{board_of}
+use Rattle.tdm_problem.specs.Value.{value_of}
+use Rattle.solution_text.specs.Text.{solution_text}
+use Rattle.tdm_cli.specs.Reports.{value_report}
+use Rattle.tdm_cli.specs.declared.status.Status.{Status}
+use Rattle.tdm_cli.specs.declared.status.Status.TheVariants as status
+use Rattle.tdm_cli.specs.Ends.{InputEnds, ObstacleEnds, DeliveryEnds, NetsEnds, RouteEnds}
+use Rattle.tdm_cli.specs.Promises.{Describes, CallsFor, IsOutsideFault, SomeUnconnectable, IsWithinUseLimit}
+use Rattle.tdm_cli.specs.Input.{IsBoardFile, IsAbsent, IsRefusedFile}
+use Rattle.tdm_cli.specs.Baseline.{IsBaseline, IsOverUseLimit, AreUnconnectable, AreBaseTrees, AllConnectable}
+use Rattle.tdm_cli.proofs.BaselineLaws.{total-unique, sum-lengths-same}
+
+-- ---- the cause of each answer
+
+first-of : (xs : List ℕ) → 0 < length xs → (x : ℕ) × Contains xs x
+first-of [] h = absurd (omega arith)
+first-of (x ∷ xs) h = (x, (0, omega arith, refl))
+
+module _ (before after : Seen) (name solution : Name) (files : Files) (told : files_of before ≡ Some files) where
+  input-cause : (answer : Status) → InputEnds before after name answer → IsOutsideFault answer ⊎ CallsFor files name answer
+  input-cause status.NoInput ends = inr (ends.0 files told)
+  input-cause status.ReadFault ends = inl tt
+  input-cause status.BoardRefused ends = let file = ends.1 files told in inr (file.0, ends.0, file.1, file.2)
+  input-cause status.WriteFault ends = inl tt
+  input-cause status.OutOfMemory ends = inl tt
+  input-cause _ ends = absurd ends
+
+  described : (board : Board) → IsBoardFile before name board → Describes files name board
+  described board is = is files told
+
+  nets-cause : (board : Board) → IsBoardFile before name board → (answer : Status) → NetsEnds before after board solution answer → IsOutsideFault answer ⊎ CallsFor files name answer
+  nets-cause board is answer (inl obstacle) = by answer obstacle
+    where
+      by : (answer : Status) → ObstacleEnds before after board answer → IsOutsideFault answer ⊎ CallsFor files name answer
+      by status.Unconnectable ends =
+          let net = first-of ends.0 ends.2 in
+          let apart = (ends.1.exact net.0).0 net.1 in
+          inr (board, described board is, (net.0, apart.0, apart.1))
+      by status.UseLimit ends = inr (board, described board is, ends.0)
+      by status.WriteFault ends = inl tt
+      by status.OutOfMemory ends = inl tt
+      by _ ends = absurd ends
+  nets-cause board is answer (inr (routing, baseline, delivery)) = by answer delivery
+    where
+      by : (answer : Status) → DeliveryEnds before after solution (solution_text routing) (value_report (value_of board routing)) answer → IsOutsideFault answer ⊎ CallsFor files name answer
+      by status.Ok ends = inr (board, described board is, baseline.joined, λ trees base. omega (arith, total-unique board trees (trees_of routing) base baseline.base, sum-lengths-same routing, baseline.few))
+      by status.WriteFault ends = inl tt
+      by status.OutOfMemory ends = inl tt
+      by _ ends = absurd ends
+
+  pub route-cause : (answer : Status) → RouteEnds before after name solution answer → IsOutsideFault answer ⊎ CallsFor files name answer
+  route-cause answer (inl ends) = input-cause answer ends
+  route-cause answer (inr (board, is, ends)) = nets-cause board is answer ends
+
+-- ---- the files call for one status
+
+module _ (files : Files) (name : Name) where
+  none-some : (bytes : Bytes) → get files name ≡ None → get files name ≡ Some bytes → ⊥
+  none-some bytes a b = cc
+
+  one-text : (a b : Bytes) → get files name ≡ Some a → get files name ≡ Some b → a ≡ b
+  one-text a b p q = cc
+
+  apart-texts : (a b : Bytes) (board : Board) (refusal : BoardRefusal) → get files name ≡ Some a → board_of a ≡ Ok board → get files name ≡ Some b → board_of b ≡ Err refusal → ⊥
+  apart-texts a b board refusal p d q r = let same = one-text a b p q in let e : board_of a ≡ board_of b = ap board_of same in cc
+
+  ok-same : (x y : Board) → ◌≡◌ {A = Result Board BoardRefusal} (Ok x) (Ok y) → x ≡ y
+  ok-same x y e = cc
+
+  one-board : (a b : Board) → Describes files name a → Describes files name b → a ≡ b
+  one-board a b d e = ok-same a b (sym d.2 ∙ ap board_of (one-text d.0 e.0 d.1 e.1) ∙ e.2)
+
+  one-status : (s t : Status) → CallsFor files name s → CallsFor files name t → s ≡ t
+  one-status status.NoInput status.NoInput h k = refl
+  one-status status.NoInput status.BoardRefused h k = absurd (none-some k.0 h k.2)
+  one-status status.NoInput status.Unconnectable h k = absurd (none-some k.1.0 h k.1.1)
+  one-status status.NoInput status.UseLimit h k = absurd (none-some k.1.0 h k.1.1)
+  one-status status.NoInput status.Ok h k = absurd (none-some k.1.0 h k.1.1)
+  one-status status.NoInput _ h k = absurd k
+  one-status status.BoardRefused status.NoInput h k = absurd (none-some h.0 k h.2)
+  one-status status.BoardRefused status.BoardRefused h k = refl
+  one-status status.BoardRefused status.Unconnectable h k = absurd (apart-texts k.1.0 h.0 k.0 h.1 k.1.1 k.1.2 h.2 h.3)
+  one-status status.BoardRefused status.UseLimit h k = absurd (apart-texts k.1.0 h.0 k.0 h.1 k.1.1 k.1.2 h.2 h.3)
+  one-status status.BoardRefused status.Ok h k = absurd (apart-texts k.1.0 h.0 k.0 h.1 k.1.1 k.1.2 h.2 h.3)
+  one-status status.BoardRefused _ h k = absurd k
+  one-status status.Unconnectable status.NoInput h k = absurd (none-some h.1.0 k h.1.1)
+  one-status status.Unconnectable status.BoardRefused h k = absurd (apart-texts h.1.0 k.0 h.0 k.1 h.1.1 h.1.2 k.2 k.3)
+  one-status status.Unconnectable status.Unconnectable h k = refl
+  one-status status.Unconnectable status.UseLimit h k = let over = subst IsOverUseLimit (one-board k.0 h.0 k.1 h.1) k.2 in absurd (h.2.2 (over.joined h.2.0 h.2.1))
+  one-status status.Unconnectable status.Ok h k = let all = subst AllConnectable (one-board k.0 h.0 k.1 h.1) k.2 in absurd (h.2.2 (all h.2.0 h.2.1))
+  one-status status.Unconnectable _ h k = absurd k
+  one-status status.UseLimit status.NoInput h k = absurd (none-some h.1.0 k h.1.1)
+  one-status status.UseLimit status.BoardRefused h k = absurd (apart-texts h.1.0 k.0 h.0 k.1 h.1.1 h.1.2 k.2 k.3)
+  one-status status.UseLimit status.Unconnectable h k = let over = subst IsOverUseLimit (one-board h.0 k.0 h.1 k.1) h.2 in absurd (k.2.2 (over.joined k.2.0 k.2.1))
+  one-status status.UseLimit status.UseLimit h k = refl
+  one-status status.UseLimit status.Ok h k = let over = subst IsOverUseLimit (one-board h.0 k.0 h.1 k.1) h.2 in let most = k.3 over.trees over.base in let high = over.over in absurd (omega (arith, most, high))
+  one-status status.UseLimit _ h k = absurd k
+  one-status status.Ok status.NoInput h k = absurd (none-some h.1.0 k h.1.1)
+  one-status status.Ok status.BoardRefused h k = absurd (apart-texts h.1.0 k.0 h.0 k.1 h.1.1 h.1.2 k.2 k.3)
+  one-status status.Ok status.Unconnectable h k = let all = subst AllConnectable (one-board h.0 k.0 h.1 k.1) h.2 in absurd (k.2.2 (all k.2.0 k.2.1))
+  one-status status.Ok status.UseLimit h k = let over = subst IsOverUseLimit (one-board k.0 h.0 k.1 h.1) k.2 in let most = h.3 over.trees over.base in let high = over.over in absurd (omega (arith, most, high))
+  one-status status.Ok status.Ok h k = refl
+  one-status status.Ok _ h k = absurd k
+  one-status _ t h k = absurd h
+
+-- the answer is the status that the files call for, or shows a fault of the outside
+pub route-exact : (before after : Seen) (name solution : Name) (files : Files) → files_of before ≡ Some files → (answer : Status) → RouteEnds before after name solution answer → (called : Status) → CallsFor files name called → (answer ≡ called) ⊎ IsOutsideFault answer
+route-exact before after name solution files told answer ends called calls = by (route-cause before after name solution files told answer ends)
+  where
+    by : IsOutsideFault answer ⊎ CallsFor files name answer → (answer ≡ called) ⊎ IsOutsideFault answer
+    by (inl fault) = inr fault
+    by (inr cause) = inl (one-status files name answer called cause calls)

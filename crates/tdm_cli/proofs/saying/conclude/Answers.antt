@@ -1,0 +1,26 @@
+use Rattle.std.proofs.Common.{◌≡◌, refl, inl, inr, take}
+use Rattle.tdm_desk.specs.Counts.{CountsFaults}
+use Rattle.tdm_cli.specs.Saying.{Concludes}
+use Rattle.tdm_cli.proofs.ChangeLaws.{says_said}
+use Rattle.tdm_cli.proofs.saying.conclude.Goals as goal
+
+pub returns-in-Ok-clause-ends : goal.returns-in-Ok-clause-ends
+returns-in-Ok-clause-ends g c = inl (record { stands = refl; says = says_said _ _ _ c.in-Ok.ensures.ok })
+
+pub returns-in-Err-Failed-clause-ends : goal.returns-in-Err-Failed-clause-ends
+returns-in-Err-Failed-clause-ends g c =
+    let part = c.in-Err-Failed.ensures.err in
+    inr (record {
+      more = take part.0 c.args.report.now;
+      says = says_said _ _ _ part.1;
+      answers = inl (refl, (rw c.in-Err-Failed.field-0-is at c.in-Err-Failed.ensures.failed) refl);
+    })
+
+pub returns-in-Err-NoMemory-clause-ends : goal.returns-in-Err-NoMemory-clause-ends
+returns-in-Err-NoMemory-clause-ends g c =
+    let part = c.in-Err-NoMemory.ensures.err in
+    inr (record {
+      more = take part.0 c.args.report.now;
+      says = says_said _ _ _ part.1;
+      answers = inr refl;
+    })

@@ -1,0 +1,24 @@
+use Rattle.std.proofs.Common.{◌≡◌, inl, inr, []}
+use Rattle.std.specs.Prelude.{Result, Ok, Err, OnOk, OnErr}
+use Rattle.solution_text.specs.Text.{solution_text}
+use Rattle.tdm_cli.proofs.ChangeLaws.{says_output_closed}
+use Rattle.tdm_cli.proofs.EndsLaws.{created-is-open, written-is-open, written-changes, written-part, closed-changes, whole-part, on-ok, on-err}
+use Rattle.tdm_cli.proofs.writing.write_file.Goals as goal
+
+pub returns-in-Err-clause-err : goal.returns-in-Err-clause-err
+returns-in-Err-clause-err g c = inl ([], says_output_closed _ _ _ c.in-Err.ensures.err)
+
+pub write_solution-requires : goal.write_solution-requires
+write_solution-requires g c = created-is-open _ _ _ _ c.in_default.ensures.ok
+
+pub returns-in-Err-write_solution-clause-err : goal.returns-in-Err-write_solution-clause-err
+returns-in-Err-write_solution-clause-err g c = written-part _ _ _ _ _ _ c.in_default.ensures.ok c.in-Err-write_solution.ensures.err
+
+pub finish-requires : goal.finish-requires
+finish-requires g c = written-is-open _ _ _ _ _ _ c.in_default.ensures.ok c.in_default-write_solution.ensures.ok
+
+pub returns-clause-ok : goal.returns-clause-ok
+returns-clause-ok g c = on-ok _ _ (closed-changes _ _ _ _ _ _ (written-changes _ _ _ _ _ _ c.in_default.ensures.ok c.in_default-write_solution.ensures.ok) c.finish.ensures.closed)
+
+pub returns-clause-err : goal.returns-clause-err
+returns-clause-err g c = on-err _ _ (whole-part _ _ _ _ _ (closed-changes _ _ _ _ _ _ (written-changes _ _ _ _ _ _ c.in_default.ensures.ok c.in_default-write_solution.ensures.ok) c.finish.ensures.closed))

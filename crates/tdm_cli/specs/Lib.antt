@@ -1,0 +1,11 @@
+pub mod Code
+pub mod Words
+pub mod Reports
+pub mod Change
+pub mod Saying
+pub mod Input
+pub mod Baseline
+pub mod Progress
+pub mod Obstacle
+pub mod Ends
+pub mod Promises
