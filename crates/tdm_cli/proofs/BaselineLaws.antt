@@ -1,18 +1,16 @@
 -- How the baseline of a board comes from the trees of its nets.
-use Rattle.std.proofs.Common.{◌≡◌, ◌≢◌, ◌⊎◌, ◌↔◌, ℕ, zero, suc, ◌+◌, ◌<◌, ◌≤◌, ◌==◌, Bool, true, false, List, [], ◌∷◌, ◌++◌, length, map, slice_index_or, slice_index, refl, sym, ap, subst, ◌∙◌, inl, inr, arith, Contains, All, zero-add}
-use Rattle.std.specs.Prelude.{sum_by, Option, Some, None, IsSome, is_some, Result, Ok, Err, OnOk}
-use Rattle.std.specs.List.Sorted.{IsStrictlyIncreasing}
+use Rattle.std.proofs.Common.{◌≡◌, ◌⊎◌, ℕ, zero, suc, ◌+◌, ◌<◌, ◌≤◌, ◌==◌, true, false, List, [], ◌∷◌, length, map, slice_index_or, slice_index, refl, sym, ap, subst, ◌∙◌, inl, inr, arith, Contains, All, zero-add}
+use Rattle.std.specs.Prelude.{sum_by, Option, Some, None, IsSome, Result, Ok, Err, OnOk}
 use Rattle.std.proofs.lemmas.List.{length-map, nil_from_length}
 use Rattle.std.proofs.lemmas.Bool.{eqb-true}
 use Rattle.std.proofs.lemmas.List.Elements.{Contains-append_cases}
 use Rattle.std.proofs.lemmas.List.Sums.{sum_by-append}
 use Rattle.tdm_problem.specs.Board.{Board, IsBoard, IsRowBelow}
-use Rattle.tdm_problem.specs.declared.solution.WireUse.{WireUse}
 use Rattle.tdm_problem.specs.Routing.{Routing, uses_of, wires_of}
-use Rattle.tdm_problem.specs.Walk.{Links, AnyWire, Joins, IsConnectable, IsMinimalTree}
+use Rattle.tdm_problem.specs.Walk.{AnyWire, IsMinimalTree}
 use Rattle.tdm_problem.specs.Legal.{IsLegal, terminals_of}
 use Rattle.tdm_problem.specs.Trees.{tree_of, trees_of, AreTreesFor}
-use Rattle.tdm_problem.proofs.Walks.{AnyWire-from_links, Joins-wider}
+use Rattle.tdm_problem.proofs.Walks.{AnyWire-from_links}
 use Rattle.board_graph.specs.Graph.{Graph}
 use Rattle.even_legalise.specs.Uniform.{uniform_routing, uniform_use, JoinsEachNet}
 use Rattle.even_legalise.proofs.UniformLaws.{wires_of_uniform, uses_of_map}

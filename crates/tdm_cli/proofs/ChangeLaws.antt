@@ -1,12 +1,12 @@
 -- How the changes of several steps of a desk add up.
-use Rattle.std.proofs.Common.{◌≡◌, ℕ, List, [], ◌++◌, refl, sym, ap, ◌∙◌, take, append_assoc}
+use Rattle.std.proofs.Common.{◌≡◌, ℕ, [], ◌++◌, refl, sym, ap, ◌∙◌, append_assoc}
 use Rattle.std.proofs.lemmas.List.{append-nil}
 use Rattle.std.specs.Prelude.{Option, Some, None, option_map}
 use Rattle.tdm_desk.specs.declared.slots.InSlot.{InSlot}
 use Rattle.tdm_desk.specs.declared.slots.OutSlot.{OutSlot}
 use Rattle.tdm_desk.specs.Files.{Bytes, Name, Files, with_file}
-use Rattle.tdm_desk.specs.Seen.{Seen, opened, input_closed, taken, created, output_closed, written, said, files_of, said_of, SomeTaken, PrefixSaid}
-use Rattle.tdm_desk.proofs.SeenLaws.{files-opened, files-input_closed, files-taken, files-said, files-output_closed, files-written-created, files-created, said-opened, said-input_closed, said-taken, said-said, said-created, said-written, said-output_closed}
+use Rattle.tdm_desk.specs.Seen.{Seen, opened, input_closed, taken, created, output_closed, written, said, files_of, said_of}
+use Rattle.tdm_desk.proofs.SeenLaws.{files-opened, files-input_closed, files-taken, files-said, files-output_closed, files-written-created, said-opened, said-input_closed, said-taken, said-said, said-created, said-written, said-output_closed}
 use Rattle.tdm_cli.specs.Change.{Changes, Says}
 
 kept : {A : Type 0} (f : A → A) (o : Option A) → ((a : A) → f a ≡ a) → o ≡ option_map f o

@@ -1,19 +1,19 @@
 -- How the ends of a run's steps make up its end.
-use Rattle.std.proofs.Common.{◌≡◌, ◌⊎◌, ℕ, List, [], ◌∷◌, ◌++◌, refl, sym, ap, subst, ◌∙◌, inl, inr, take, length, arith, Global}
+use Rattle.std.proofs.Common.{◌≡◌, ◌⊎◌, ℕ, [], sym, ap, subst, ◌∙◌, inl, inr, take, length, arith, Global}
 use Rattle.std.specs.Prelude.{Vec, Result, Ok, Err, IfOk, IfErr, OnOk, OnErr, IsTrue}
 use Rattle.std.specs.declared.alloc.AllocError.{AllocError}
 use Rattle.std.proofs.lemmas.List.{take_all}
 use Rattle.tdm_desk.specs.declared.slots.OutSlot.{OutSlot}
-use Rattle.tdm_desk.specs.Files.{Bytes, Name, Files, with_file}
+use Rattle.tdm_desk.specs.Files.{Bytes, Name, with_file}
 use Rattle.tdm_desk.specs.Seen.{Seen, created, written, output_closed, output_is_open, PrefixWritten}
 use Rattle.tdm_desk.specs.Counts.{Counts, WritingFailed}
 use Rattle.tdm_desk.proofs.SeenLaws.{output_is_open-created, output_is_open-written}
 use Rattle.tdm_cli.specs.declared.status.Status.{Status}
 use Rattle.tdm_cli.specs.declared.status.Status.TheVariants as status
 use Rattle.tdm_cli.specs.Change.{Changes, Says}
-use Rattle.tdm_cli.specs.Saying.{Concludes, SaysAll, StopsSaying}
+use Rattle.tdm_cli.specs.Saying.{Concludes}
 use Rattle.tdm_cli.specs.Ends.{OnlySpoke, MayHoldPart, DeliveryEnds}
-use Rattle.tdm_cli.proofs.ChangeLaws.{changes_then_says, silence_then_changes, changes_written, says_output_closed}
+use Rattle.tdm_cli.proofs.ChangeLaws.{changes_then_says, changes_written, says_output_closed}
 use Rattle.tdm_cli.proofs.InputLaws.{test-true}
 
 -- ---- writing a file

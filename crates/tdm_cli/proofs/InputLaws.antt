@@ -1,11 +1,11 @@
 -- What reading an input shows of the files.
-use Rattle.std.proofs.Common.{◌≡◌, ◌≢◌, ℕ, ◌+◌, ◌<◌, ◌≤◌, List, [], ◌∷◌, ◌++◌, Bool, true, false, refl, sym, ap, ◌∙◌, take, length, subst, arith}
+use Rattle.std.proofs.Common.{◌≡◌, ℕ, ◌+◌, ◌≤◌, [], Bool, true, false, refl, sym, ap, ◌∙◌, take, length, arith}
 use Rattle.std.specs.Prelude.{Option, Some, None, is_some, option_map, unwrap_or, IsTrue, if◌then◌else◌}
 use Rattle.std.specs.Option.{ForSome}
 use Rattle.std.specs.FinMap.{get, contains_key}
 use Rattle.tdm_desk.specs.declared.slots.InSlot.{InSlot}
 use Rattle.tdm_desk.specs.Files.{Bytes, Name, Files, bytes_under}
-use Rattle.tdm_desk.specs.Seen.{Seen, opened, input_closed, files_of, rest_of, input_is_open}
+use Rattle.tdm_desk.specs.Seen.{Seen, opened, files_of, rest_of, input_is_open}
 use Rattle.tdm_desk.proofs.SeenLaws.{rest-opened, input_is_open-opened}
 use Rattle.std.specs.Prelude.{nat_lt, Result, Ok, Err}
 use Rattle.std.proofs.lemmas.List.{take_all, length-take}

@@ -1,5 +1,5 @@
 -- What one more net adds to the baseline so far.
-use Rattle.std.proofs.Common.{◌≡◌, ◌≢◌, ◌⊎◌, ◌↔◌, ℕ, zero, suc, ◌+◌, ◌<◌, ◌≤◌, List, [], ◌∷◌, ◌++◌, length, slice_index_or, slice_index, refl, sym, ap, subst, ◌∙◌, inl, inr, arith, Contains, length-append, zero-add}
+use Rattle.std.proofs.Common.{◌≡◌, ◌⊎◌, ◌↔◌, ℕ, zero, suc, ◌+◌, ◌<◌, ◌≤◌, List, [], ◌∷◌, ◌++◌, length, slice_index_or, slice_index, refl, sym, ap, subst, ◌∙◌, inl, inr, arith, Contains, length-append, zero-add}
 use Rattle.std.specs.Prelude.{sum_by, nat_lt, Bool, true, false}
 use Rattle.std.specs.List.Sorted.{IsStrictlyIncreasing}
 use Rattle.std.proofs.lemmas.List.{get_or_append_left}
@@ -12,7 +12,7 @@ use Rattle.tdm_problem.specs.Walk.{IsConnectable}
 use Rattle.tdm_problem.specs.Legal.{terminals_of}
 use Rattle.tdm_problem.specs.Trees.{tree_of}
 use Rattle.shortest_forest.specs.Baseline.{IsBaseTree}
-use Rattle.tdm_cli.specs.Baseline.{source_of, AreBaseTrees}
+use Rattle.tdm_cli.specs.Baseline.{source_of}
 use Rattle.tdm_cli.specs.declared.baseline.TheConstants.{MAX_USES}
 use Rattle.tdm_problem.specs.declared.limits.TheConstants.{MAX_NETS}
 use Rattle.tdm_cli.specs.Progress.{AreBasedSoFar, IsProgress}

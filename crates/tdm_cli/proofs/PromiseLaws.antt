@@ -1,14 +1,11 @@
 -- What the end of a run says of the files when it began.
-use Rattle.std.proofs.Common.{◌≡◌, ◌≢◌, ◌⊎◌, ℕ, ◌+◌, ◌<◌, ◌≤◌, List, [], ◌∷◌, ◌++◌, length, slice_index_or, refl, sym, ap, subst, ◌∙◌, inl, inr, arith, Contains}
-use Rattle.std.specs.Prelude.{Option, Some, None, Result, Ok, Err, option_map, sum_by}
+use Rattle.std.proofs.Common.{◌≡◌, ◌⊎◌, ℕ, ◌<◌, List, [], ◌∷◌, length, refl, sym, ap, subst, ◌∙◌, inl, inr, arith, Contains}
+use Rattle.std.specs.Prelude.{Some, None, Result, Ok, Err}
 use Rattle.std.specs.FinMap.{get}
-use Rattle.tdm_desk.specs.Files.{Bytes, Name, Files, with_file}
-use Rattle.tdm_desk.specs.Seen.{Seen, files_of, said_of}
+use Rattle.tdm_desk.specs.Files.{Bytes, Name, Files}
+use Rattle.tdm_desk.specs.Seen.{Seen, files_of}
 use Rattle.tdm_problem.specs.Board.{Board}
-use Rattle.tdm_problem.specs.Routing.{Routing}
-use Rattle.tdm_problem.specs.Walk.{AnyWire, IsConnectable}
-use Rattle.tdm_problem.specs.Legal.{terminals_of}
-use Rattle.tdm_problem.specs.Trees.{tree_of, trees_of}
+use Rattle.tdm_problem.specs.Trees.{trees_of}
 use Rattle.contest_input.specs.declared.fault.BoardRefusal.{BoardRefusal}
 use Rattle.contest_input.specs.BoardText.{board_of}
 use Rattle.tdm_problem.specs.Value.{value_of}
@@ -17,9 +14,9 @@ use Rattle.tdm_cli.specs.Reports.{value_report}
 use Rattle.tdm_cli.specs.declared.status.Status.{Status}
 use Rattle.tdm_cli.specs.declared.status.Status.TheVariants as status
 use Rattle.tdm_cli.specs.Ends.{InputEnds, ObstacleEnds, DeliveryEnds, NetsEnds, RouteEnds}
-use Rattle.tdm_cli.specs.Promises.{Describes, CallsFor, IsOutsideFault, SomeUnconnectable, IsWithinUseLimit}
-use Rattle.tdm_cli.specs.Input.{IsBoardFile, IsAbsent, IsRefusedFile}
-use Rattle.tdm_cli.specs.Baseline.{IsBaseline, IsOverUseLimit, AreUnconnectable, AreBaseTrees, AllConnectable}
+use Rattle.tdm_cli.specs.Promises.{Describes, CallsFor, IsOutsideFault}
+use Rattle.tdm_cli.specs.Input.{IsBoardFile}
+use Rattle.tdm_cli.specs.Baseline.{IsOverUseLimit, AllConnectable}
 use Rattle.tdm_cli.proofs.BaselineLaws.{total-unique, sum-lengths-same}
 
 -- ---- the cause of each answer

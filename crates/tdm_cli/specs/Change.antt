@@ -1,5 +1,5 @@
 -- What happened to the files, and what was said, from one state of a desk to a later one.
-use Rattle.std.specs.Prelude.{◌≡◌, List, ◌++◌, option_map}
+use Rattle.std.specs.Prelude.{◌≡◌, ◌++◌, option_map}
 use Rattle.tdm_desk.specs.Files.{Bytes, Files}
 use Rattle.tdm_desk.specs.Seen.{Seen, files_of, said_of}
 

@@ -1,5 +1,5 @@
 -- How a run may end: for each status its cause, and what the files and the report are then.
-use Rattle.std.specs.Prelude.{◌≡◌, ℕ, ◌<◌, ◌⊎◌, List, length, take}
+use Rattle.std.specs.Prelude.{ℕ, ◌<◌, ◌⊎◌, List, length, take}
 use Rattle.tdm_desk.specs.Files.{Bytes, Name, with_file}
 use Rattle.tdm_desk.specs.Seen.{Seen}
 use Rattle.tdm_problem.specs.Board.{Board}

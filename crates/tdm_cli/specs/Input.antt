@@ -2,7 +2,7 @@
 use Rattle.std.specs.Prelude.{◌≡◌, ℕ, take, Some, None, Ok, Err}
 use Rattle.std.specs.Option.{ForSome}
 use Rattle.std.specs.FinMap.{get}
-use Rattle.tdm_desk.specs.Files.{Bytes, Name, Files}
+use Rattle.tdm_desk.specs.Files.{Bytes, Name}
 use Rattle.tdm_desk.specs.Seen.{Seen, files_of}
 use Rattle.tdm_problem.specs.Board.{Board}
 use Rattle.contest_input.specs.declared.fault.BoardRefusal.{BoardRefusal}

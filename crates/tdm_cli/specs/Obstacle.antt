@@ -1,5 +1,5 @@
 -- Why a board has no solution that may be written.
-use Rattle.std.specs.Prelude.{ℕ, ◌<◌, length}
+use Rattle.std.specs.Prelude.{◌<◌, length}
 use Rattle.tdm_problem.specs.Board.{Board}
 use Rattle.tdm_cli.specs.declared.baseline.Obstacle.{Obstacle}
 use Rattle.tdm_cli.specs.declared.baseline.Obstacle.TheVariants.{Unconnectable, UseLimit, NoMemory}

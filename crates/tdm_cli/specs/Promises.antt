@@ -1,5 +1,5 @@
 -- What the program promises of a run, in terms of the files when it began.
-use Rattle.std.specs.Prelude.{◌≡◌, ◌≢◌, ℕ, ◌<◌, ◌≤◌, ◌⊎◌, List, ◌++◌, length, sum_by, Some, None, Ok, Err, option_map}
+use Rattle.std.specs.Prelude.{◌≡◌, ℕ, ◌<◌, ◌≤◌, List, ◌++◌, length, sum_by, Some, None, Ok, Err, option_map}
 use Rattle.std.specs.FinMap.{get}
 use Rattle.tdm_desk.specs.Files.{Bytes, Name, Files, with_file}
 use Rattle.tdm_desk.specs.Seen.{Seen, files_of, said_of}

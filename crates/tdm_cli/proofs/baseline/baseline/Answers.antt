@@ -1,4 +1,3 @@
-use Rattle.std.proofs.Common.{◌≡◌}
 use Rattle.tdm_cli.proofs.BaselineLaws.{base-trees-for, base-joins, baseline-of}
 use Rattle.tdm_cli.proofs.baseline.baseline.Goals as goal
 

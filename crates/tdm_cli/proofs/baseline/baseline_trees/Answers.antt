@@ -1,5 +1,5 @@
-use Rattle.std.proofs.Common.{◌≡◌, ℕ, ◌<◌, length, slice_index_or, arith, sym, refl, subst, ap, ◌∙◌}
-use Rattle.std.specs.Prelude.{None, Some, IsSome}
+use Rattle.std.proofs.Common.{slice_index_or, arith, sym, subst, ap, ◌∙◌}
+use Rattle.std.specs.Prelude.{None, IsSome}
 use Rattle.tdm_cli.specs.Baseline.{source_of}
 use Rattle.tdm_cli.proofs.BaselineLaws.{forest-there, forest-hops, forest-root, all-missing, all-over, all-base, all-few, all-joined, some-there, none-there}
 use Rattle.tdm_cli.proofs.baseline.baseline_trees.Goals as goal

@@ -1,4 +1,3 @@
-use Rattle.std.proofs.Common.{◌≡◌}
 use Rattle.tdm_cli.specs.Progress.{IsProgress}
 use Rattle.tdm_cli.proofs.baseline.baseline_trees.Given as goal
 

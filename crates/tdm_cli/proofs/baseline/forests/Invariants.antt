@@ -1,4 +1,3 @@
-use Rattle.std.proofs.Common.{◌≡◌}
 use Rattle.tdm_cli.specs.Progress.{AreMade}
 use Rattle.tdm_cli.proofs.baseline.forests.Given as goal
 

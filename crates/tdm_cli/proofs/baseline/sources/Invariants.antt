@@ -1,5 +1,3 @@
-use Rattle.std.proofs.Common.{◌≡◌, ℕ, ◌<◌, length, slice_index_or, true, false}
-use Rattle.tdm_cli.specs.Baseline.{source_of}
 use Rattle.tdm_cli.specs.Progress.{AreMarked}
 use Rattle.tdm_cli.proofs.baseline.sources.Given as goal
 

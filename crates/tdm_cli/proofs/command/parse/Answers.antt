@@ -1,7 +1,6 @@
-use Rattle.std.proofs.Common.{rules, arith, ◌≡◌, ◌≢◌, ℕ, ◌+◌, ◌<◌, ◌≤◌, map, string_bytes, String, Global, length, List, [], ◌∷◌, slice_index_or, refl, sym, ap, ◌∙◌, false, ◌==◌, codes}
+use Rattle.std.proofs.Common.{arith, ◌≡◌, ℕ, ◌<◌, ◌≤◌, length, List, [], ◌∷◌, slice_index_or, sym, false, ◌==◌, codes}
 use Rattle.std.proofs.lemmas.Slice.Eq.{bytes_eq-Decides}
 use Rattle.std.proofs.lemmas.Bool.Decides.{nat_tests}
-use Rattle.tdm_cli.specs.Words.{IsRoute, IsCommand, RequestIs}
 use Rattle.tdm_cli.proofs.command.parse.Goals as goal
 
 -- a list of three elements is those at its three places

@@ -1,4 +1,4 @@
-use Rattle.std.proofs.Common.{◌≡◌, ◌+◌}
+use Rattle.std.proofs.Common.{◌+◌}
 use Rattle.tdm_cli.proofs.ChangeLaws.{says_opened, says_input_closed, says_taken, changes_then_says}
 use Rattle.tdm_cli.proofs.InputLaws.{opened-is-open, front-of-file, when-true, when-false}
 use Rattle.tdm_cli.proofs.reading.read_bytes.Goals as goal

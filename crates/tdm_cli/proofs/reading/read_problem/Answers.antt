@@ -1,4 +1,4 @@
-use Rattle.std.proofs.Common.{◌≡◌, ◌+◌, ◌≤◌, arith, ap, sym, ◌∙◌, length}
+use Rattle.std.proofs.Common.{arith, ap, sym, ◌∙◌}
 use Rattle.contest_input.specs.BoardText.{board_of}
 use Rattle.tdm_cli.proofs.InputLaws.{board-file, refused-file}
 use Rattle.tdm_cli.proofs.reading.read_problem.Goals as goal

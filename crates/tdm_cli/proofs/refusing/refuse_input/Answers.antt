@@ -1,4 +1,4 @@
-use Rattle.std.proofs.Common.{◌≡◌, subst}
+use Rattle.std.proofs.Common.{subst}
 use Rattle.tdm_cli.specs.Change.{Says}
 use Rattle.tdm_cli.specs.Input.{IsRefusedFile}
 use Rattle.tdm_cli.specs.Ends.{InputEnds}

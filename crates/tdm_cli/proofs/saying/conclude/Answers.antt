@@ -1,6 +1,4 @@
-use Rattle.std.proofs.Common.{◌≡◌, refl, inl, inr, take}
-use Rattle.tdm_desk.specs.Counts.{CountsFaults}
-use Rattle.tdm_cli.specs.Saying.{Concludes}
+use Rattle.std.proofs.Common.{refl, inl, inr, take}
 use Rattle.tdm_cli.proofs.ChangeLaws.{says_said}
 use Rattle.tdm_cli.proofs.saying.conclude.Goals as goal
 

@@ -1,6 +1,4 @@
-use Rattle.std.proofs.Common.{◌≡◌, inl, inr, []}
-use Rattle.std.specs.Prelude.{Result, Ok, Err, OnOk, OnErr}
-use Rattle.solution_text.specs.Text.{solution_text}
+use Rattle.std.proofs.Common.{inl, []}
 use Rattle.tdm_cli.proofs.ChangeLaws.{says_output_closed}
 use Rattle.tdm_cli.proofs.EndsLaws.{created-is-open, written-is-open, written-changes, written-part, closed-changes, whole-part, on-ok, on-err}
 use Rattle.tdm_cli.proofs.writing.write_file.Goals as goal

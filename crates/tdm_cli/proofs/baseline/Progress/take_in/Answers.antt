@@ -1,4 +1,4 @@
-use Rattle.std.proofs.Common.{◌≡◌, ◌∷◌, [], ◌++◌, ◌+◌, arith, subst, sym, ap, ◌∙◌}
+use Rattle.std.proofs.Common.{◌+◌, subst, sym}
 use Rattle.std.specs.List.Sorted.{IsStrictlyIncreasing}
 use Rattle.tdm_problem.specs.Walk.{IsConnectable}
 use Rattle.tdm_problem.specs.Legal.{terminals_of}
