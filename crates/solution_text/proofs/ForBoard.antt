@@ -1,5 +1,5 @@
 -- What is read is for the board.
-use Rattle.std.proofs.Common.{◌≡◌, ◌≢◌, ℕ, zero, suc, ◌+◌, ◌<◌, ◌≤◌, Bool, true, false, cond, ltb, leb, eqb, nat_eq, ◌==◌, List, [], ◌∷◌, ◌++◌, length, get_or, All, AllPairs, Result, Ok, Err, refl, sym, ap, ◌∙◌, subst, arith, rules}
+use Rattle.std.proofs.Common.{◌≡◌, ℕ, zero, suc, ◌<◌, Bool, true, false, ltb, leb, nat_eq, ◌==◌, List, [], ◌∷◌, ◌++◌, length, get_or, All, Result, Ok, Err, refl, ap, ◌∙◌, subst}
 use Rattle.std.specs.List.{list_any, IsDistinct}
 use Rattle.std.specs.Cmp.{nat_eq_equiv}
 use Rattle.std.proofs.lemmas.List.{map-append}
@@ -13,6 +13,7 @@ use Rattle.tdm_problem.specs.Routing.{Routing, wires_of, IsFor}
 use Rattle.tdm_lines.specs.Lines.{Line, lines, line_after}
 use Rattle.solution_text.specs.declared.refusal.SolutionRefusal.{SolutionRefusal}
 use Rattle.solution_text.specs.Reading.{most_bytes, largest_number, next_line, count_said, use_said, by_wire, uses_from, net_from, nets_from, solution_of, ◌>>=◌}
+use Rattle.solution_text.proofs.Marking.{list_any-wires_of}
 use Rattle.solution_text.proofs.Sorting.{by_wire-moves}
 
 -- what is read in two steps was read in each
@@ -45,10 +46,6 @@ use_said_ok wires earlier line (wire ∷ ratio ∷ []) u e = use_ok wires earlie
 use_said_ok wires earlier line (wire ∷ ratio ∷ n ∷ numbers) u e = absurd (cc)
 
 -- ---- the uses of a net
-
-list_any-wires_of : (wire : ℕ) (uses : List WireUse) → list_any (nat_eq wire) (wires_of uses) ≡ list_any (λ u. u.wire == wire) uses
-list_any-wires_of wire [] = refl
-list_any-wires_of wire (u ∷ uses) = rw (nat_eq_equiv.symm wire u.wire, list_any-wires_of wire uses) refl
 
 -- one more use that is there and new
 AreUses-push : (wires : ℕ) (earlier : List WireUse) (u : WireUse) → AreUses wires earlier → u.wire < wires → list_any (λ v. v.wire == u.wire) earlier ≡ false → AreUses wires (earlier ++ u ∷ [])

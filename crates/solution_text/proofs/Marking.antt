@@ -1,19 +1,18 @@
 -- The stamps of wires as uses come, one after another.
-use Rattle.std.proofs.Common.{◌≡◌, ◌≢◌, ℕ, ◌<◌, ◌≤◌, Bool, true, false, eqb, nat_eq, ◌==◌, ◌||◌, List, [], ◌∷◌, ◌++◌, length, map, get_or, set, All, ◌⊎◌, ⊎_elim, refl, sym, ap, ◌∙◌, subst, arith, rules, get_or-set_same, get_or-set_other}
+use Rattle.std.proofs.Common.{◌≡◌, ◌≢◌, ℕ, ◌<◌, ◌≤◌, true, false, nat_eq, ◌==◌, ◌||◌, List, [], ◌∷◌, ◌++◌, length, get_or, set, All, ⊎_elim, refl, sym, ◌∙◌, arith, get_or-set_same, get_or-set_other}
 use Rattle.std.specs.List.{list_any, IsDistinct}
 use Rattle.std.specs.Cmp.{nat_eq_equiv}
 use Rattle.std.proofs.lemmas.List.{map-append, length-set}
 use Rattle.std.proofs.lemmas.List.Elements.{All-set, All-weaker}
 use Rattle.std.proofs.lemmas.List.Folds.{list_any-append}
 use Rattle.std.proofs.lemmas.Map.Keys.{IsDistinct-push}
-use Rattle.std.proofs.lemmas.Bool.{eq-eqb, ne_eqb, cases_eq}
-use Rattle.std.proofs.lemmas.Grind.{common_steps}
+use Rattle.std.proofs.lemmas.Bool.{ne_eqb, cases_eq}
 use Rattle.tdm_problem.specs.declared.solution.WireUse.{WireUse}
 use Rattle.tdm_problem.specs.Routing.{wires_of}
 use Rattle.solution_text.specs.Steps.{Marks}
 
 -- whether some use has the wire, by the list of the wires
-list_any-wires_of : (wire : ℕ) (uses : List WireUse) → list_any (nat_eq wire) (wires_of uses) ≡ list_any (λ u. u.wire == wire) uses
+pub list_any-wires_of : (wire : ℕ) (uses : List WireUse) → list_any (nat_eq wire) (wires_of uses) ≡ list_any (λ u. u.wire == wire) uses
 list_any-wires_of wire [] = refl
 list_any-wires_of wire (u ∷ uses) = rw (nat_eq_equiv.symm wire u.wire, list_any-wires_of wire uses) refl
 

@@ -1,5 +1,5 @@
 -- Reading on from line to line.
-use Rattle.std.proofs.Common.{◌≡◌, ℕ, suc, ◌+◌, ◌-◌, List, [], ◌∷◌, ◌++◌, ◌≤◌, ◌^◌, length, All, Result, Ok, Err, refl, sym, ap, ◌∙◌, subst, arith}
+use Rattle.std.proofs.Common.{◌≡◌, ℕ, suc, ◌+◌, List, [], ◌∷◌, ◌++◌, ◌≤◌, ◌^◌, length, All, Result, Ok, Err, refl, sym, ap, ◌∙◌, subst, arith}
 use Rattle.solution_text.specs.declared.read.Reader.{Reader}
 use Rattle.solution_text.specs.declared.refusal.SolutionRefusal.{SolutionRefusal}
 use Rattle.solution_text.specs.declared.refusal.SolutionFault.{SolutionFault}

@@ -1,5 +1,5 @@
 -- What is written reads back.
-use Rattle.std.proofs.Common.{◌≡◌, ◌≢◌, ℕ, zero, suc, ◌+◌, ◌-◌, ◌<◌, ◌≤◌, ◌^◌, Bool, true, false, nat_eq, ◌==◌, ltb, leb, List, [], ◌∷◌, ◌++◌, length, get_or, All, Result, Ok, Err, refl, sym, ap, ◌∙◌, subst, arith, append_assoc}
+use Rattle.std.proofs.Common.{◌≡◌, ℕ, suc, ◌+◌, ◌<◌, ◌≤◌, ◌^◌, false, ◌==◌, List, [], ◌∷◌, ◌++◌, length, get_or, All, Ok, refl, ap, ◌∙◌, arith, append_assoc}
 use Rattle.std.specs.List.{list_any, flat_map}
 use Rattle.std.proofs.lemmas.List.{append-nil}
 use Rattle.std.proofs.lemmas.List.Elements.{All-nil, All-cons, All-head, All-tail, All-weaker, All-push}
@@ -11,11 +11,10 @@ use Rattle.tdm_problem.specs.Routing.{Routing}
 use Rattle.tdm_lines.specs.Lines.{Line, pieces, lines_from, lines, line_after}
 use Rattle.tdm_lines.specs.Written.{line_text, plain_line, IsRow}
 use Rattle.tdm_lines.proofs.WrittenLemmas.{lines_from-line_text}
-use Rattle.solution_text.specs.declared.refusal.SolutionRefusal.{SolutionRefusal}
 use Rattle.solution_text.specs.Text.{use_line, net_text, solution_text}
-use Rattle.solution_text.specs.Reading.{largest_number, by_wire, uses_from, net_from, nets_from, solution_of, ◌>>=◌}
+use Rattle.solution_text.specs.Reading.{largest_number, by_wire, uses_from, net_from, nets_from, solution_of}
 use Rattle.solution_text.specs.Sayable.{IsSayable}
-use Rattle.solution_text.proofs.Sorting.{Rising, by_wire-at_rising}
+use Rattle.solution_text.proofs.Sorting.{by_wire-at_rising}
 use Rattle.solution_text.proofs.ReadingOn.{whole_is}
 use Rattle.solution_text.proofs.Uses.{AreSayable, AreSayable-head, AreSayable-tail, are_sayable, so_few_uses}
 

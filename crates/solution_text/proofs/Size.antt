@@ -1,11 +1,11 @@
 -- How long a text is.
-use Rattle.std.proofs.Common.{◌≡◌, ℕ, ◌+◌, ◌*◌, ◌^◌, ◌<◌, ◌≤◌, List, [], ◌∷◌, ◌++◌, length, sum_by, All, refl, sym, ap, ◌∙◌, arith, length-append}
+use Rattle.std.proofs.Common.{ℕ, ◌+◌, ◌*◌, ◌^◌, ◌<◌, ◌≤◌, List, [], ◌∷◌, ◌++◌, length, sum_by, All, arith, length-append}
 use Rattle.std.specs.List.{flat_map}
 use Rattle.std.proofs.lemmas.List.Elements.{All-head, All-tail}
 use Rattle.std.proofs.lemmas.List.Sums.{sum_by-cons}
 use Rattle.std.proofs.lemmas.Fmt.{length-decimal-le_wide}
 use Rattle.tdm_problem.specs.declared.solution.WireUse.{WireUse}
-use Rattle.tdm_problem.specs.declared.limits.TheConstants.{MAX_WIRES, MAX_NETS}
+use Rattle.tdm_problem.specs.declared.limits.TheConstants.{MAX_NETS}
 use Rattle.tdm_problem.specs.Board.{Board}
 use Rattle.tdm_problem.specs.Routing.{Routing}
 use Rattle.tdm_lines.specs.Digits.{digits}

@@ -1,5 +1,5 @@
 -- How a function that reads answers to what the lines say.
-use Rattle.std.specs.Prelude.{◌≡◌, ℕ, ◌<◌, ◌≤◌, Bool, nat_eq, ◌==◌, List, [], ◌∷◌, ◌++◌, length, slice_index, Result, Ok, Err, All}
+use Rattle.std.specs.Prelude.{◌≡◌, ℕ, ◌<◌, ◌≤◌, nat_eq, ◌==◌, List, ◌++◌, length, slice_index, Result, Ok, Err, All}
 use Rattle.std.specs.List.{list_any, IsDistinct}
 use Rattle.tdm_problem.specs.declared.solution.WireUse.{WireUse}
 use Rattle.tdm_problem.specs.Routing.{Routing, wires_of}

@@ -6,22 +6,26 @@ ghost use Rattle.solution_text.specs.Text.{solution_text};
 ghost use Rattle.solution_text.specs.Reading.{solution_of};
 ghost use Rattle.solution_text.specs.Sayable.{IsSayable};
 
-/// What is written reads back: the text of a solution, where it has at most 2^30 bytes, says just that solution.
+/// What is written reads back: the text of a solution, where it has at most 2^30 bytes, says just that
+/// solution.
 pub fn reads_back()
-    ensures { (board : Board) (routing : Routing) → IsSayable board routing → length (solution_text routing) ≤ 2 ^ 30 →
+    ensures { (board : Board) (routing : Routing) → IsSayable board routing →
+        length (solution_text routing) ≤ 2 ^ 30 →
         solution_of board (solution_text routing) ≡ Ok routing }
 {}
 
-/// A text has at most 17 bytes for each use and 6 for each net, so that of a solution with at most 2^25 uses is never
-/// too long.
+/// A text has at most 17 bytes for each use and 6 for each net, so that of a solution with at most 2^25
+/// uses is never too long.
 pub fn text_is_short()
     ensures bytes { (board : Board) (routing : Routing) → IsSayable board routing →
         length (solution_text routing) ≤ 17 * sum_by length routing + 6 * length routing }
-    ensures enough { (board : Board) (routing : Routing) → IsSayable board routing → sum_by length routing ≤ 2 ^ 25 →
+    ensures enough { (board : Board) (routing : Routing) → IsSayable board routing →
+        sum_by length routing ≤ 2 ^ 25 →
         length (solution_text routing) ≤ 2 ^ 30 }
 {}
 
 /// A text that is cut one byte past the longest says what the whole text says, so no more of it need be read.
 pub fn cut_text_says_the_same()
-    ensures { (board : Board) (text : List ℕ) → solution_of board (take (2 ^ 30 + 1) text) ≡ solution_of board text }
+    ensures { (board : Board) (text : List ℕ) →
+        solution_of board (take (2 ^ 30 + 1) text) ≡ solution_of board text }
 {}

@@ -1,6 +1,5 @@
 //! Bytes of a text that are still to be written.
 ghost use Rattle.std.specs.Prelude.{◌≡◌, ◌+◌, ◌-◌, ◌≤◌, [], ◌++◌, length};
-ghost use Rattle.solution_text.specs.declared.pending.TheConstants.{ROOM};
 
 use std::marker::Model;
 

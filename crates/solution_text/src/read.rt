@@ -25,8 +25,10 @@ pub const MAX_SOLUTION_BYTES: usize = 1_073_741_824;
 /// Reads the text of a solution for the problem: for each net, in order, a line with the number of its uses, and
 /// then for each use a line with the wire and the ratio. The uses of a net may stand in any order.
 ///
-/// The text has at most 2^30 + 1 bytes. It is refused with the first kind of [`SolutionKind`] that holds on the
-/// first line where one does.
+/// The text has at most 2^30 + 1 bytes; a longer one may be cut there, since it is refused all the same.
+///
+/// Refused where the text is no solution for the problem, for the first line at fault and the first of the
+/// [`SolutionKind`]s that holds there. NoMemory where memory is wanting.
 pub fn read_solution(
     alloc: Global,
     bytes: &[u8],
@@ -140,7 +142,10 @@ impl<'a> Reader<'a> {
     fn next_line(&mut self) -> Result<u32, SolutionFault>
         requires { self.old.lines.max ≡ 2 ^ 32 - 1 }
         ensures read { Leads result (next_line self.old.after self.old.lines.lines)
-            (λ number. Ok (record { number = number; fault = None; numbers = self.new.numbers.items }, self.new.lines.lines)) }
+            (λ number. Ok (
+              record { number = number; fault = None; numbers = self.new.numbers.items },
+              self.new.lines.lines,
+            )) }
         ensures numbers { OnOk result (All (λ n. n < 2 ^ 32) self.new.numbers.items) }
         ensures kept { IsSameText self.old self.new }
         ensures same_uses { self.new.uses ≡ self.old.uses }
@@ -161,8 +166,10 @@ impl<'a> Reader<'a> {
     // Reads the count line of the next net, and answers how many uses the net has.
     fn read_count(&mut self) -> Result<u32, SolutionFault>
         requires { self.old.lines.max ≡ 2 ^ 32 - 1 }
-        ensures read { Leads result (net_from (length self.old.stamps.items) self.old.after self.old.lines.lines)
-            (λ count. uses_from (length self.old.stamps.items) self.old.after [] count self.new.lines.lines) }
+        ensures read { Leads result
+            (net_from (length self.old.stamps.items) self.old.after self.old.lines.lines)
+            (λ count. uses_from (length self.old.stamps.items) self.old.after []
+            count self.new.lines.lines) }
         ensures kept { IsSameText self.old self.new }
         ensures same_stamps { self.new.stamps ≡ self.old.stamps }
     {
@@ -175,8 +182,10 @@ impl<'a> Reader<'a> {
         requires largest { self.old.lines.max ≡ 2 ^ 32 - 1 }
         requires marks { Marks self.old.stamps.items stamp self.old.uses.items }
         ensures read { (count : ℕ) → Leads result
-            (uses_from (length self.old.stamps.items) self.old.after self.old.uses.items (suc count) self.old.lines.lines)
-            (λ _. uses_from (length self.old.stamps.items) self.old.after self.new.uses.items count self.new.lines.lines) }
+            (uses_from (length self.old.stamps.items) self.old.after self.old.uses.items
+            (suc count) self.old.lines.lines)
+            (λ _. uses_from (length self.old.stamps.items) self.old.after self.new.uses.items
+            count self.new.lines.lines) }
         ensures marks { OnOk result (Marks self.new.stamps.items stamp self.new.uses.items) }
         ensures kept { IsSameText self.old self.new }
     {
@@ -194,7 +203,8 @@ impl<'a> Reader<'a> {
         requires largest { self.old.lines.max ≡ 2 ^ 32 - 1 }
         requires marks { Marks self.old.stamps.items stamp self.old.uses.items }
         ensures read { Leads result
-            (uses_from (length self.old.stamps.items) self.old.after self.old.uses.items count self.old.lines.lines)
+            (uses_from (length self.old.stamps.items) self.old.after self.old.uses.items
+            count self.old.lines.lines)
             (λ _. Ok (by_wire self.new.uses.items, self.new.lines.lines)) }
         ensures marks { OnOk result (Marks self.new.stamps.items stamp self.new.uses.items) }
         ensures kept { OnOk result (IsSameText self.old self.new) }
@@ -209,7 +219,8 @@ impl<'a> Reader<'a> {
     fn read_net(&mut self, stamp: u32) -> Result<(), SolutionFault>
         requires largest { self.old.lines.max ≡ 2 ^ 32 - 1 }
         requires unmarked { All (λ s. s < stamp) self.old.stamps.items }
-        ensures read { Leads result (net_from (length self.old.stamps.items) self.old.after self.old.lines.lines)
+        ensures read { Leads result
+            (net_from (length self.old.stamps.items) self.old.after self.old.lines.lines)
             (λ _. Ok (self.new.uses.items, self.new.lines.lines)) }
         ensures rising { OnOk result (IsStrictlyIncreasing (wires_of self.new.uses.items)) }
         ensures marked { OnOk result (All (λ s. s ≤ stamp) self.new.stamps.items) }
@@ -227,8 +238,10 @@ impl<'a> Reader<'a> {
         requires largest { self.old.lines.max ≡ 2 ^ 32 - 1 }
         requires unmarked { All (λ s. s ≤ 0) self.old.stamps.items }
         requires limit { nets ≤ MAX_NETS }
-        ensures read { Leads result (nets_from (length self.old.stamps.items) self.old.after nets self.old.lines.lines)
-            (λ solution. with_nets solution (nets_from (length self.old.stamps.items) self.old.after 0 self.new.lines.lines)) }
+        ensures read { Leads result
+            (nets_from (length self.old.stamps.items) self.old.after nets self.old.lines.lines)
+            (λ solution. with_nets solution
+            (nets_from (length self.old.stamps.items) self.old.after 0 self.new.lines.lines)) }
         ensures kept { OnOk result (IsSameText self.old self.new) }
     {
         let mut solution = Solution::new(alloc);
@@ -242,7 +255,8 @@ impl<'a> Reader<'a> {
     // Tells that no line is left.
     fn read_end(&mut self) -> Result<(), SolutionFault>
         requires { self.old.lines.max ≡ 2 ^ 32 - 1 }
-        ensures { (wires : ℕ) → Leads result (nets_from wires self.old.after 0 self.old.lines.lines) (λ _. Ok []) }
+        ensures { (wires : ℕ) → Leads result
+            (nets_from wires self.old.after 0 self.old.lines.lines) (λ _. Ok []) }
     {
         match self.lines.next_line(&mut self.numbers)? {
             None => Ok(()),

@@ -46,12 +46,12 @@ impl SolutionKind {
 }
 
 /// What is wrong with a text, and on which line.
-///
-/// Lines are numbered from 1. A missing line is named by the number of line feeds plus 1, and a text that is too
-/// long by 0.
 #[derive(Clone, Copy, Debug, PartialEq, Eq)]
 pub struct SolutionRefusal {
+    /// What is wrong.
     pub kind: SolutionKind,
+    /// The line at fault, from 1. A missing line is said to stand where the text ends, on the line that is the number
+    /// of line feeds plus 1; 0 for TooLong.
     pub line: u32,
 }
 

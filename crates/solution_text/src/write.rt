@@ -1,9 +1,10 @@
 //! Writing the text of a solution.
+#![tactic(auto, using(tdm_desk::proofs::SeenLaws::after_calls, tdm_desk::proofs::CountLaws::counting_faults))]
+
 ghost use Rattle.std.specs.Prelude.{◌≡◌, ◌≤◌, [], ◌∷◌, ◌++◌, length, IsTrue, OnOk, OnErr, IsErrOf};
 ghost use Rattle.std.specs.List.{flat_map};
 ghost use Rattle.tdm_desk.specs.Seen.{output_is_open, written, PrefixWritten};
 ghost use Rattle.tdm_desk.specs.Counts.{CountsFaults, WritingFailed};
-ghost use Rattle.solution_text.specs.declared.pending.TheConstants.{ROOM};
 ghost use Rattle.solution_text.specs.Text.{use_line, net_text, solution_text};
 ghost use Rattle.solution_text.specs.Writing.{number_then, IsUnderWay};
 
@@ -12,19 +13,21 @@ use tdm_desk::{Desk, DeskFault, OutSlot, write_whole};
 use tdm_lines::decimal;
 use tdm_problem::{Solution, WireUse};
 
-/// Adds the text of a solution to the file of an open output: for each net, in order, a line with the number of its
-/// uses, and then for each use a line with the wire and the ratio. Without nets the text is empty.
+/// Adds the text of a solution to the file of an open output: for each net, in order, a line with the
+/// number of its uses, and then for each use a line with the wire and the ratio. Without nets the text
+/// is empty.
 ///
 /// It takes no memory of its own. After a fault a prefix of the text was added, and the slot stays open.
-#[tactic(auto, using(tdm_desk::proofs::SeenLaws::after_calls, tdm_desk::proofs::CountLaws::counting_faults))]
 pub fn write_solution<D: Desk>(
     desk: &mut D,
     slot: OutSlot,
     solution: &Solution,
 ) -> Result<(), DeskFault>
     requires { IsTrue (output_is_open slot (D.seen desk.old)) }
-    ensures ok { OnOk result (D.seen desk.new ≡ written slot (solution_text solution.now) (D.seen desk.old)) }
-    ensures err { OnErr result (PrefixWritten slot (solution_text solution.now) (D.seen desk.old) (D.seen desk.new)) }
+    ensures ok { OnOk result (D.seen desk.new ≡ written slot (solution_text solution.now)
+        (D.seen desk.old)) }
+    ensures err { OnErr result (PrefixWritten slot (solution_text solution.now)
+        (D.seen desk.old) (D.seen desk.new)) }
     ensures failed { IsErrOf result DeskFault.Failed →
         WritingFailed D.counts D.steady desk.old desk.new }
     ensures counted { CountsFaults D.counts D.steady desk.old desk.new }
@@ -36,12 +39,12 @@ pub fn write_solution<D: Desk>(
 }
 
 // Writes what is pending.
-#[tactic(auto, using(tdm_desk::proofs::SeenLaws::after_calls, tdm_desk::proofs::CountLaws::counting_faults))]
 fn flush<D: Desk>(desk: &mut D, slot: OutSlot, pending: &mut Pending) -> Result<(), DeskFault>
     requires { IsTrue (output_is_open slot (D.seen desk.old)) }
     ensures ok { OnOk result (D.seen desk.new ≡ written slot pending.old (D.seen desk.old)) }
     ensures emptied { OnOk result (pending.new ≡ []) }
-    ensures err { OnErr result (PrefixWritten slot pending.old (D.seen desk.old) (D.seen desk.new)) }
+    ensures err { OnErr result (PrefixWritten slot pending.old
+        (D.seen desk.old) (D.seen desk.new)) }
     ensures failed { IsErrOf result DeskFault.Failed →
         WritingFailed D.counts D.steady desk.old desk.new }
     ensures counted { CountsFaults D.counts D.steady desk.old desk.new }
@@ -52,7 +55,6 @@ fn flush<D: Desk>(desk: &mut D, slot: OutSlot, pending: &mut Pending) -> Result<
 }
 
 // Adds a piece to the text. Where there is no room for it, what is pending is written first.
-#[tactic(auto, using(tdm_desk::proofs::SeenLaws::after_calls, tdm_desk::proofs::CountLaws::counting_faults))]
 fn put<D: Desk>(
     desk: &mut D,
     slot: OutSlot,
@@ -61,8 +63,10 @@ fn put<D: Desk>(
 ) -> Result<(), DeskFault>
     requires open { IsTrue (output_is_open slot (D.seen desk.old)) }
     requires short { length piece.now ≤ ROOM }
-    ensures ok { OnOk result (IsUnderWay slot (pending.old ++ piece.now) (D.seen desk.old) pending.new (D.seen desk.new)) }
-    ensures err { OnErr result (PrefixWritten slot (pending.old ++ piece.now) (D.seen desk.old) (D.seen desk.new)) }
+    ensures ok { OnOk result (IsUnderWay slot (pending.old ++ piece.now)
+        (D.seen desk.old) pending.new (D.seen desk.new)) }
+    ensures err { OnErr result (PrefixWritten slot (pending.old ++ piece.now)
+        (D.seen desk.old) (D.seen desk.new)) }
     ensures failed { IsErrOf result DeskFault.Failed →
         WritingFailed D.counts D.steady desk.old desk.new }
     ensures counted { CountsFaults D.counts D.steady desk.old desk.new }
@@ -75,7 +79,6 @@ fn put<D: Desk>(
 }
 
 // Adds a number to the text, and the byte behind it.
-#[tactic(auto, using(tdm_desk::proofs::SeenLaws::after_calls, tdm_desk::proofs::CountLaws::counting_faults))]
 fn put_number<D: Desk>(
     desk: &mut D,
     slot: OutSlot,
@@ -84,8 +87,10 @@ fn put_number<D: Desk>(
     end: u8,
 ) -> Result<(), DeskFault>
     requires { IsTrue (output_is_open slot (D.seen desk.old)) }
-    ensures ok { OnOk result (IsUnderWay slot (pending.old ++ number_then number end) (D.seen desk.old) pending.new (D.seen desk.new)) }
-    ensures err { OnErr result (PrefixWritten slot (pending.old ++ number_then number end) (D.seen desk.old) (D.seen desk.new)) }
+    ensures ok { OnOk result (IsUnderWay slot (pending.old ++ number_then number end)
+        (D.seen desk.old) pending.new (D.seen desk.new)) }
+    ensures err { OnErr result (PrefixWritten slot (pending.old ++ number_then number end)
+        (D.seen desk.old) (D.seen desk.new)) }
     ensures failed { IsErrOf result DeskFault.Failed →
         WritingFailed D.counts D.steady desk.old desk.new }
     ensures counted { CountsFaults D.counts D.steady desk.old desk.new }
@@ -96,7 +101,6 @@ fn put_number<D: Desk>(
 }
 
 // Adds the line of a use to the text.
-#[tactic(auto, using(tdm_desk::proofs::SeenLaws::after_calls, tdm_desk::proofs::CountLaws::counting_faults))]
 fn put_use<D: Desk>(
     desk: &mut D,
     slot: OutSlot,
@@ -104,8 +108,10 @@ fn put_use<D: Desk>(
     used: WireUse,
 ) -> Result<(), DeskFault>
     requires { IsTrue (output_is_open slot (D.seen desk.old)) }
-    ensures ok { OnOk result (IsUnderWay slot (pending.old ++ use_line used) (D.seen desk.old) pending.new (D.seen desk.new)) }
-    ensures err { OnErr result (PrefixWritten slot (pending.old ++ use_line used) (D.seen desk.old) (D.seen desk.new)) }
+    ensures ok { OnOk result (IsUnderWay slot (pending.old ++ use_line used)
+        (D.seen desk.old) pending.new (D.seen desk.new)) }
+    ensures err { OnErr result (PrefixWritten slot (pending.old ++ use_line used)
+        (D.seen desk.old) (D.seen desk.new)) }
     ensures failed { IsErrOf result DeskFault.Failed →
         WritingFailed D.counts D.steady desk.old desk.new }
     ensures counted { CountsFaults D.counts D.steady desk.old desk.new }
@@ -116,7 +122,6 @@ fn put_use<D: Desk>(
 }
 
 // Adds the lines of uses to the text.
-#[tactic(auto, using(tdm_desk::proofs::SeenLaws::after_calls, tdm_desk::proofs::CountLaws::counting_faults))]
 fn put_uses<D: Desk>(
     desk: &mut D,
     slot: OutSlot,
@@ -124,8 +129,10 @@ fn put_uses<D: Desk>(
     uses: &[WireUse],
 ) -> Result<(), DeskFault>
     requires { IsTrue (output_is_open slot (D.seen desk.old)) }
-    ensures ok { OnOk result (IsUnderWay slot (pending.old ++ flat_map use_line uses.now) (D.seen desk.old) pending.new (D.seen desk.new)) }
-    ensures err { OnErr result (PrefixWritten slot (pending.old ++ flat_map use_line uses.now) (D.seen desk.old) (D.seen desk.new)) }
+    ensures ok { OnOk result (IsUnderWay slot (pending.old ++ flat_map use_line uses.now)
+        (D.seen desk.old) pending.new (D.seen desk.new)) }
+    ensures err { OnErr result (PrefixWritten slot (pending.old ++ flat_map use_line uses.now)
+        (D.seen desk.old) (D.seen desk.new)) }
     ensures failed { IsErrOf result DeskFault.Failed →
         WritingFailed D.counts D.steady desk.old desk.new }
     ensures counted { CountsFaults D.counts D.steady desk.old desk.new }
@@ -137,7 +144,6 @@ fn put_uses<D: Desk>(
 }
 
 // Adds the lines of a net to the text.
-#[tactic(auto, using(tdm_desk::proofs::SeenLaws::after_calls, tdm_desk::proofs::CountLaws::counting_faults))]
 fn put_net<D: Desk>(
     desk: &mut D,
     slot: OutSlot,
@@ -145,8 +151,10 @@ fn put_net<D: Desk>(
     uses: &[WireUse],
 ) -> Result<(), DeskFault>
     requires { IsTrue (output_is_open slot (D.seen desk.old)) }
-    ensures ok { OnOk result (IsUnderWay slot (pending.old ++ net_text uses.now) (D.seen desk.old) pending.new (D.seen desk.new)) }
-    ensures err { OnErr result (PrefixWritten slot (pending.old ++ net_text uses.now) (D.seen desk.old) (D.seen desk.new)) }
+    ensures ok { OnOk result (IsUnderWay slot (pending.old ++ net_text uses.now)
+        (D.seen desk.old) pending.new (D.seen desk.new)) }
+    ensures err { OnErr result (PrefixWritten slot (pending.old ++ net_text uses.now)
+        (D.seen desk.old) (D.seen desk.new)) }
     ensures failed { IsErrOf result DeskFault.Failed →
         WritingFailed D.counts D.steady desk.old desk.new }
     ensures counted { CountsFaults D.counts D.steady desk.old desk.new }
@@ -157,7 +165,6 @@ fn put_net<D: Desk>(
 }
 
 // Adds the lines of all nets to the text.
-#[tactic(auto, using(tdm_desk::proofs::SeenLaws::after_calls, tdm_desk::proofs::CountLaws::counting_faults))]
 fn put_nets<D: Desk>(
     desk: &mut D,
     slot: OutSlot,
@@ -165,8 +172,10 @@ fn put_nets<D: Desk>(
     solution: &Solution,
 ) -> Result<(), DeskFault>
     requires { IsTrue (output_is_open slot (D.seen desk.old)) }
-    ensures ok { OnOk result (IsUnderWay slot (pending.old ++ solution_text solution.now) (D.seen desk.old) pending.new (D.seen desk.new)) }
-    ensures err { OnErr result (PrefixWritten slot (pending.old ++ solution_text solution.now) (D.seen desk.old) (D.seen desk.new)) }
+    ensures ok { OnOk result (IsUnderWay slot (pending.old ++ solution_text solution.now)
+        (D.seen desk.old) pending.new (D.seen desk.new)) }
+    ensures err { OnErr result (PrefixWritten slot (pending.old ++ solution_text solution.now)
+        (D.seen desk.old) (D.seen desk.new)) }
     ensures failed { IsErrOf result DeskFault.Failed →
         WritingFailed D.counts D.steady desk.old desk.new }
     ensures counted { CountsFaults D.counts D.steady desk.old desk.new }

@@ -1,8 +1,8 @@
 -- What the end of a run says of the files when it began.
 use Rattle.std.proofs.Common.{◌≡◌, ◌⊎◌, ℕ, ◌<◌, List, [], ◌∷◌, length, refl, sym, ap, subst, ◌∙◌, inl, inr, arith, Contains}
-use Rattle.std.specs.Prelude.{Some, None, Result, Ok, Err}
+use Rattle.std.specs.Prelude.{Some, None, Result, Ok, Err, option_map}
 use Rattle.std.specs.FinMap.{get}
-use Rattle.tdm_desk.specs.Files.{Bytes, Name, Files}
+use Rattle.tdm_desk.specs.Files.{Bytes, Name, Files, with_file}
 use Rattle.tdm_desk.specs.Seen.{Seen, files_of}
 use Rattle.tdm_problem.specs.Board.{Board}
 use Rattle.tdm_problem.specs.Trees.{trees_of}
@@ -14,7 +14,7 @@ use Rattle.tdm_cli.specs.Reports.{value_report}
 use Rattle.tdm_cli.specs.declared.status.Status.{Status}
 use Rattle.tdm_cli.specs.declared.status.Status.TheVariants as status
 use Rattle.tdm_cli.specs.Ends.{InputEnds, ObstacleEnds, DeliveryEnds, NetsEnds, RouteEnds}
-use Rattle.tdm_cli.specs.Promises.{Describes, CallsFor, IsOutsideFault}
+use Rattle.tdm_cli.specs.Promises.{Describes, CallsFor, IsOutsideFault, IsRouted}
 use Rattle.tdm_cli.specs.Input.{IsBoardFile}
 use Rattle.tdm_cli.specs.Baseline.{IsOverUseLimit, AllConnectable}
 use Rattle.tdm_cli.proofs.BaselineLaws.{total-unique, sum-lengths-same}
@@ -119,3 +119,31 @@ route-exact before after name solution files told answer ends called calls = by 
     by : IsOutsideFault answer ⊎ CallsFor files name answer → (answer ≡ called) ⊎ IsOutsideFault answer
     by (inl fault) = inr fault
     by (inr cause) = inl (one-status files name answer called cause calls)
+
+-- ---- what Ok and completeness say
+
+pub route-written : (before after : Seen) (name solution : Name) (files : Files) → files_of before ≡ Some files → RouteEnds before after name solution status.Ok → IsRouted files name solution before after
+route-written before after name solution files told (inl ends) = absurd ends
+route-written before after name solution files told (inr (board, is, inl obstacle)) = absurd obstacle
+route-written before after name solution files told (inr (board, is, inr (routing, baseline, changes))) = record {
+  board = board;
+  described = is files told;
+  routing = routing;
+  legal = baseline.legal;
+  minimal = baseline.minimal;
+  baseline = baseline;
+  written = changes.files ∙ ap (option_map (with_file solution (solution_text routing))) told;
+  valued = changes.said;
+}
+
+-- a fault of the outside that is neither of reading nor of writing is want of memory
+pub only-memory : (answer : Status) → IsOutsideFault answer → (answer ≡ status.ReadFault → ⊥) → (answer ≡ status.WriteFault → ⊥) → answer ≡ status.OutOfMemory
+only-memory status.ReadFault fault read written = absurd (read refl)
+only-memory status.WriteFault fault read written = absurd (written refl)
+only-memory status.OutOfMemory fault read written = refl
+only-memory _ fault read written = absurd fault
+
+-- Ok, or want of memory
+pub ok-or-memory : (answer : Status) → (answer ≡ status.Ok) ⊎ IsOutsideFault answer → (answer ≡ status.ReadFault → ⊥) → (answer ≡ status.WriteFault → ⊥) → (answer ≡ status.Ok) ⊎ (answer ≡ status.OutOfMemory)
+ok-or-memory answer (inl ok) read written = inl ok
+ok-or-memory answer (inr fault) read written = inr (only-memory answer fault read written)

@@ -17,7 +17,7 @@ use Rattle.tdm_cli.specs.declared.status.Status.TheVariants as status
 use Rattle.tdm_cli.specs.Baseline.{IsBaseline, IsOverUseLimit, AreBaseTrees, AllConnectable}
 use Rattle.tdm_cli.specs.Reports.{value_report}
 
--- the FPGAs of some net are not
+-- the FPGAs of some net are not joined by the wires of the board
 abbrev pub SomeUnconnectable : Board → Type 0
 SomeUnconnectable board = (n : ℕ) × (n < length board.nets) × (IsConnectable board (terminals_of board n) → ⊥)
 
@@ -44,13 +44,6 @@ IsOutsideFault status.ReadFault = Unit {0}
 IsOutsideFault status.WriteFault = Unit {0}
 IsOutsideFault status.OutOfMemory = Unit {0}
 IsOutsideFault _ = ⊥
-
--- the answer can only come before any output is created
-abbrev pub CreatesNothing : Status → Type 0
-CreatesNothing status.Ok = ⊥
-CreatesNothing status.WriteFault = ⊥
-CreatesNothing status.OutOfMemory = ⊥
-CreatesNothing _ = Unit {0}
 
 -- the solution of the board in one file is written to the other, and its value is said
 pub record IsRouted (files : Files) (name solution : Name) (before after : Seen) : Type 0 where

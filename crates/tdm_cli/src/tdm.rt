@@ -6,8 +6,8 @@ ghost use Rattle.tdm_desk.specs.Counts.{CountsFaults, ReadingFailed, WritingFail
 ghost use Rattle.tdm_desk.specs.declared.slots.InSlot.TheVariants.{In0};
 ghost use Rattle.tdm_cli.specs.Words.{IsRoute, IsCommand};
 ghost use Rattle.tdm_cli.specs.Ends.{UsageEnds, RouteEnds};
-ghost use Rattle.tdm_cli.specs.Promises.{CallsFor, IsOutsideFault};
-ghost use Rattle.tdm_cli.specs.declared.status.Status.TheVariants.{Usage, ReadFault, WriteFault};
+ghost use Rattle.tdm_cli.specs.Promises.{CallsFor, IsOutsideFault, IsRouted};
+ghost use Rattle.tdm_cli.specs.declared.status.Status.TheVariants.{Ok, Usage, ReadFault, WriteFault, OutOfMemory};
 
 use crate::command::{Command, parse};
 use crate::report;
@@ -59,6 +59,15 @@ pub fn tdm<D: Desk>(alloc: Global, desk: &mut D, words: &[String]) -> Status
         → (result ≡ called) ⊎ IsOutsideFault result }
     ensures cause { (board solution : Name) (files : Files) → IsRoute (map string_bytes words.now) board solution
         → files_of (D.seen desk.old) ≡ Some files → IsOutsideFault result ⊎ CallsFor files board result }
+
+    // An accepted board with connectable nets and a baseline within the limit is routed, unless memory is wanting.
+    ensures complete { (board solution : Name) (files : Files) → IsRoute (map string_bytes words.now) board solution
+        → files_of (D.seen desk.old) ≡ Some files → CallsFor files board Ok
+        → (ReadingFailed D.counts D.steady In0 desk.old desk.new → ⊥)
+        → (WritingFailed D.counts D.steady desk.old desk.new → ⊥) → (result ≡ Ok) ⊎ (result ≡ OutOfMemory) }
+    ensures written { (board solution : Name) (files : Files) → IsRoute (map string_bytes words.now) board solution
+        → files_of (D.seen desk.old) ≡ Some files → result ≡ Ok
+        → IsRouted files board solution (D.seen desk.old) (D.seen desk.new) }
 {
     run_words(alloc, desk, words)
 }

@@ -3,8 +3,7 @@ use std::alloc::{AllocError, Global};
 use std::test::Fail;
 use tdm_desk::MemoryDesk;
 
-/// Whether routing the board `b` ends so, says this and writes this solution, or none where it is empty and the
-/// status is not Ok.
+/// Whether routing the board `b` ends so, says this, and at Ok writes this solution, else no file at all.
 fn ends(
     alloc: Global,
     board: &str,
@@ -15,8 +14,11 @@ fn ends(
     let mut desk = MemoryDesk::new(alloc);
     desk.put_file("b", board.as_bytes())?;
     let answer = run(alloc, &mut desk, &["route", "b", "s"])?;
-    let written = desk.file("s").unwrap_or(b"");
-    Ok(answer == status && desk.report() == said.as_bytes() && written == solution.as_bytes())
+    let written = match desk.file("s") {
+        Some(text) => answer == Status::Ok && text == solution.as_bytes(),
+        None => answer != Status::Ok,
+    };
+    Ok(answer == status && desk.report() == said.as_bytes() && written)
 }
 
 /// Runs the words over a desk in memory.

@@ -2,7 +2,6 @@ use Rattle.std.proofs.Common.{◌≡◌, ◌≤◌, ◌^◌, ℕ, [], length, ar
 use Rattle.std.proofs.lemmas.Result.{err_from_is_err_and}
 use Rattle.solution_text.specs.Reading.{solution_of, nets_from}
 use Rattle.solution_text.specs.Fault.{IsFaultOf}
-use Rattle.solution_text.specs.Steps.{with_nets}
 use Rattle.solution_text.proofs.ReadingOn.{whole_is, whole_ok, whole_fault}
 use Rattle.solution_text.proofs.ForBoard.{solution_is_for}
 use Rattle.solution_text.proofs.read.read_solution.Goals as goal

@@ -1,5 +1,4 @@
 use Rattle.std.proofs.Common.{sym, rules}
-use Rattle.std.specs.List.Sorted.{IsNonDecreasingBy}
 use Rattle.std.proofs.lemmas.List.Sorted.{IsNonDecreasingBy-from_sort_by_key}
 use Rattle.tdm_problem.specs.declared.solution.WireUse.{WireUse}
 use Rattle.solution_text.proofs.Sorting.{by_wire-from_sort, strictly_from_sort}

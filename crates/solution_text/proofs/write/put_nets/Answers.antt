@@ -1,4 +1,4 @@
-use Rattle.std.proofs.Common.{arith, sym, [], ◌≡◌, ◌<◌, length}
+use Rattle.std.proofs.Common.{arith, [], ◌<◌, length}
 use Rattle.std.proofs.lemmas.Result.{err_from_is_err_and}
 use Rattle.solution_text.specs.Text.{net_text}
 use Rattle.solution_text.proofs.UnderWay.{brings_none, brings_more, brings_fault}

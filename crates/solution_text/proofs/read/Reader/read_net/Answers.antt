@@ -1,4 +1,3 @@
-use Rattle.std.proofs.Common.{refl}
 use Rattle.solution_text.proofs.Marking.{marks_none}
 use Rattle.solution_text.proofs.read.Reader.read_net.Goals as goal
 

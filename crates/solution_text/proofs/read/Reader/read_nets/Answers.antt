@@ -1,4 +1,4 @@
-use Rattle.std.proofs.Common.{◌≡◌, ◌+◌, ◌-◌, ◌++◌, ◌∷◌, [], ◌≤◌, length, All, ℕ, suc, arith, rules, sym, subst}
+use Rattle.std.proofs.Common.{◌≡◌, ◌+◌, ◌-◌, ◌++◌, ◌∷◌, [], ◌≤◌, length, All, ℕ, suc, arith, rules, subst}
 use Rattle.std.proofs.lemmas.Result.{err_from_is_err_and}
 use Rattle.solution_text.specs.Reader.{ReadsNets}
 use Rattle.solution_text.proofs.ReadingOn.{reads_nets_fault, reads_nets_more}
