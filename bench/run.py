@@ -21,6 +21,17 @@ SIZES = [
 ]
 SEED = 20
 
+# nets from end to end of a path of 4,096 FPGAs: one more than may be routed, and the most
+PATH_NETS = [8_195, 8_194]
+
+
+def path(folder: Path, nets: int) -> Path:
+    at = folder / f"path-{nets}.txt"
+    if not at.exists():
+        wires = "".join(f"{i} {i + 1}\n" for i in range(4_095))
+        at.write_text(f"4096 4095 {nets} 0\n{wires}" + "0 4095\n" * nets)
+    return at
+
 
 def board(folder: Path, size: tuple) -> Path:
     path = folder / ("board-" + "-".join(map(str, size)) + ".txt")
@@ -48,11 +59,12 @@ def main() -> int:
     folder = Path(sys.argv[2] if len(sys.argv) == 3 else tempfile.mkdtemp(prefix="tdm-bench-"))
     folder.mkdir(parents=True, exist_ok=True)
     print(f"{'fpgas':>6} {'wires':>6} {'nets':>8} {'groups':>8} {'board MB':>9} {'seconds':>8} {'peak MiB':>9}  said")
-    for size in SIZES:
-        path = board(folder, size)
+    boards = [(size, board(folder, size)) for size in SIZES]
+    boards += [((4_096, 4_095, nets, 0), path(folder, nets)) for nets in PATH_NETS]
+    for size, text in boards:
         solution = folder / "solution.txt"
-        seconds, peak, status, said = measured([program, "route", str(path), str(solution)])
-        row = f"{size[0]:>6} {size[1]:>6} {size[2]:>8} {size[3]:>8} {path.stat().st_size / 1e6:>9.1f} {seconds:>8.2f} {peak:>9.0f}"
+        seconds, peak, status, said = measured([program, "route", str(text), str(solution)])
+        row = f"{size[0]:>6} {size[1]:>6} {size[2]:>8} {size[3]:>8} {text.stat().st_size / 1e6:>9.1f} {seconds:>8.2f} {peak:>9.0f}"
         print(f"{row}  status {status}: {said}", flush=True)
     return 0
 
