@@ -1,5 +1,5 @@
 -- What a caller sees after each call of a desk: its files, what was said, the rests and the open slots.
-use Rattle.std.proofs.Common.{is_some, ◌≡◌, ℕ, ◌+◌, true, [], ◌++◌, refl, sym, ap, ◌∙◌, append_assoc, drop, length, take, arith, inr}
+use Rattle.std.proofs.Common.{is_some, ◌≡◌, ℕ, ◌+◌, true, false, [], ◌++◌, refl, sym, ap, ◌∙◌, append_assoc, drop, length, take, arith, inr}
 use Rattle.std.proofs.lemmas.List.{append-nil, drop-drop, take_all}
 use Rattle.std.specs.Prelude.{Option, Some, None, option_map}
 use Rattle.tdm_desk.specs.declared.slots.InSlot.{InSlot}
@@ -7,7 +7,7 @@ use Rattle.tdm_desk.specs.declared.slots.OutSlot.{OutSlot}
 use Rattle.tdm_desk.specs.Slots.{at, put, input_place, output_place}
 use Rattle.tdm_desk.specs.Files.{Bytes, Name, Files, bytes_under, with_file}
 use Rattle.tdm_desk.specs.Seen.{Told, Seen, opened, input_closed, taken, created, output_closed, with_output, written, said, input_is_open, output_is_open, files_of, rest_of, said_of, HasFile, MayHavePrefix, HasSaid, HasSaidPrefix, PrefixSaid, PrefixWritten, tells}
-use Rattle.tdm_desk.proofs.SlotLaws.{at-put, put-put, put-at}
+use Rattle.tdm_desk.proofs.SlotLaws.{at-put, at-put_other, put-put, put-at}
 use Rattle.tdm_desk.proofs.FileLaws.{with_more-with_file, with_more-nothing, with_more-with_more}
 
 map-map : {A B C : Type 0} (f : A → B) (g : B → C) (h : A → C) (o : Option A) → ((a : A) → g (f a) ≡ h a) → option_map g (option_map f o) ≡ option_map h o
@@ -102,11 +102,58 @@ rest-taken slot count s =
     map-map _ _ (λ (t : Told). drop count (at (input_place slot) t.rests)) s.told (λ t. at-put (input_place slot) _ _)
     ∙ sym (map-map (λ (t : Told). at (input_place slot) t.rests) (drop count) _ s.told (λ t. refl))
 
+-- the other inputs still give what they gave
+pub rest-opened_other : (slot other : InSlot) (name : Name) (s : Seen) → (input_place other ≡ input_place slot → ⊥) → rest_of slot (opened other name s) ≡ rest_of slot s
+unfolding rest_of opened
+rest-opened_other slot other name s apart = map-map _ _ _ s.told (λ t. at-put_other (input_place other) (input_place slot) _ t.rests apart)
+
+pub rest-taken_other : (slot other : InSlot) (count : ℕ) (s : Seen) → (input_place other ≡ input_place slot → ⊥) → rest_of slot (taken other count s) ≡ rest_of slot s
+unfolding rest_of taken
+rest-taken_other slot other count s apart = map-map _ _ _ s.told (λ t. at-put_other (input_place other) (input_place slot) _ t.rests apart)
+
+-- no output and nothing that is said changes what the inputs still give
+pub rest-created : (slot : InSlot) (out : OutSlot) (name : Name) (s : Seen) → rest_of slot (created out name s) ≡ rest_of slot s
+unfolding rest_of created
+rest-created slot out name s = map-map _ _ _ s.told (λ t. refl)
+
+pub rest-written : (slot : InSlot) (out : OutSlot) (bytes : Bytes) (s : Seen) → rest_of slot (written out bytes s) ≡ rest_of slot s
+unfolding rest_of written
+rest-written slot out bytes s = map-map _ _ _ s.told (λ t. refl)
+
+pub rest-output_closed : (slot : InSlot) (out : OutSlot) (s : Seen) → rest_of slot (output_closed out s) ≡ rest_of slot s
+unfolding rest_of output_closed
+rest-output_closed slot out s = map-map _ _ _ s.told (λ t. refl)
+
+pub rest-said : (slot : InSlot) (bytes : Bytes) (s : Seen) → rest_of slot (said bytes s) ≡ rest_of slot s
+unfolding rest_of said
+rest-said slot bytes s = map-map _ _ _ s.told (λ t. refl)
+
 -- ---- the open slots
 
 pub input_is_open-opened : (slot : InSlot) (name : Name) (s : Seen) → input_is_open slot (opened slot name s) ≡ true
 unfolding input_is_open opened
 input_is_open-opened slot name s = at-put (input_place slot) true s.inputs
+
+-- another input, an output and what is said leave it open or closed
+pub input_is_open-opened_other : (slot other : InSlot) (name : Name) (s : Seen) → (input_place other ≡ input_place slot → ⊥) → input_is_open slot (opened other name s) ≡ input_is_open slot s
+unfolding input_is_open opened
+input_is_open-opened_other slot other name s apart = at-put_other (input_place other) (input_place slot) true s.inputs apart
+
+pub input_is_open-created : (slot : InSlot) (out : OutSlot) (name : Name) (s : Seen) → input_is_open slot (created out name s) ≡ input_is_open slot s
+unfolding input_is_open created
+input_is_open-created slot out name s = refl
+
+pub input_is_open-written : (slot : InSlot) (out : OutSlot) (bytes : Bytes) (s : Seen) → input_is_open slot (written out bytes s) ≡ input_is_open slot s
+unfolding input_is_open written
+input_is_open-written slot out bytes s = refl
+
+pub input_is_open-output_closed : (slot : InSlot) (out : OutSlot) (s : Seen) → input_is_open slot (output_closed out s) ≡ input_is_open slot s
+unfolding input_is_open output_closed
+input_is_open-output_closed slot out s = refl
+
+pub input_is_open-said : (slot : InSlot) (bytes : Bytes) (s : Seen) → input_is_open slot (said bytes s) ≡ input_is_open slot s
+unfolding input_is_open said
+input_is_open-said slot bytes s = refl
 
 pub input_is_open-taken : (slot other : InSlot) (count : ℕ) (s : Seen) → input_is_open slot (taken other count s) ≡ input_is_open slot s
 unfolding input_is_open taken
@@ -115,6 +162,19 @@ input_is_open-taken slot other count s = refl
 pub output_is_open-created : (slot : OutSlot) (name : Name) (s : Seen) → output_is_open slot (created slot name s) ≡ true
 unfolding output_is_open created
 output_is_open-created slot name s = at-put (output_place slot) true s.outputs
+
+-- the other outputs are open where they were
+pub output_is_open-created_other : (slot other : OutSlot) (name : Name) (s : Seen) → (output_place other ≡ output_place slot → ⊥) → output_is_open slot (created other name s) ≡ output_is_open slot s
+unfolding output_is_open created
+output_is_open-created_other slot other name s apart = at-put_other (output_place other) (output_place slot) true s.outputs apart
+
+pub output_is_open-closed_other : (slot other : OutSlot) (s : Seen) → (output_place other ≡ output_place slot → ⊥) → output_is_open slot (output_closed other s) ≡ output_is_open slot s
+unfolding output_is_open output_closed
+output_is_open-closed_other slot other s apart = at-put_other (output_place other) (output_place slot) false s.outputs apart
+
+pub output_is_open-output_closed : (slot : OutSlot) (s : Seen) → output_is_open slot (output_closed slot s) ≡ false
+unfolding output_is_open output_closed
+output_is_open-output_closed slot s = at-put (output_place slot) false s.outputs
 
 pub output_is_open-written : (slot other : OutSlot) (bytes : Bytes) (s : Seen) → output_is_open slot (written other bytes s) ≡ output_is_open slot s
 unfolding output_is_open written
@@ -269,9 +329,14 @@ pub ruleset after_calls = (
   said-said,
   rest-opened,
   rest-taken,
+  rest-created,
+  rest-written,
+  rest-output_closed,
+  rest-said,
   input_is_open-opened,
   input_is_open-taken,
   output_is_open-created,
+  output_is_open-output_closed,
   output_is_open-written,
   output_is_open-said,
   whole_prefix,

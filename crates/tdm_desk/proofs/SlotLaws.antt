@@ -12,6 +12,19 @@ module _ {A : Type 0} where
   at-put Second a s = refl
   at-put Third a s = refl
 
+  -- a change at another place leaves it
+  pub at-put_other : (p q : Place) (a : A) (s : Slots A) → (p ≡ q → ⊥) → at q (put p a s) ≡ at q s
+  unfolding at put
+  at-put_other First First a s apart = absurd (apart refl)
+  at-put_other First Second a s apart = refl
+  at-put_other First Third a s apart = refl
+  at-put_other Second First a s apart = refl
+  at-put_other Second Second a s apart = absurd (apart refl)
+  at-put_other Second Third a s apart = refl
+  at-put_other Third First a s apart = refl
+  at-put_other Third Second a s apart = refl
+  at-put_other Third Third a s apart = absurd (apart refl)
+
   pub put-put : (p : Place) (a b : A) (s : Slots A) → put p b (put p a s) ≡ put p b s
   unfolding put
   put-put First a b s = refl
