@@ -5,3 +5,10 @@ pub mod Ratios
 pub mod Repeats
 pub mod Routings
 pub mod Walks
+pub mod SampleBoards
+pub mod Roots
+pub mod SumsBelow
+pub mod Tangents
+pub mod Evens
+pub mod Users
+pub mod Exchanges

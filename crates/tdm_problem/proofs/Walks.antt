@@ -66,12 +66,12 @@ Joins-from_source board wires source fpgas walks a b there_a there_b =
     )
 
 -- the only element of a list of one
-only : (x y : ℕ) → Contains (x ∷ []) y → x ≡ y
+pub only : (x y : ℕ) → Contains (x ∷ []) y → x ≡ y
 only x y (zero, there, is) = is
 only x y (suc k, there, is) = absurd (omega arith)
 
 -- either element of a list of two
-either : (x y z : ℕ) → Contains (x ∷ y ∷ []) z → (x ≡ z) ⊎ (y ≡ z)
+pub either : (x y z : ℕ) → Contains (x ∷ y ∷ []) z → (x ≡ z) ⊎ (y ≡ z)
 either x y z (zero, there, is) = inl is
 either x y z (suc zero, there, is) = inr is
 either x y z (suc (suc k), there, is) = absurd (omega arith)

@@ -1,7 +1,7 @@
-use Rattle.std.specs.Prelude.{◌≡◌, ℕ, ◌<◌, ◌*◌, List, [], length, slice_index_or, All, Contains}
+use Rattle.std.specs.Prelude.{◌≡◌, ℕ, ◌<◌, ◌*◌, List, [], length, slice_index, slice_index_or, All, Contains}
 use Rattle.tdm_problem.specs.Board.{Board}
 use Rattle.tdm_problem.specs.Routing.{Routing, uses_of, wires_of, ratios_of, ratios_on, IsFor}
-use Rattle.tdm_problem.specs.Walk.{Joins}
+use Rattle.tdm_problem.specs.Walk.{Joins, IsConnectable}
 use Rattle.tdm_problem.specs.Fit.{FitsLanes}
 
 -- how many lanes wire e has, which share its reciprocals
@@ -11,6 +11,14 @@ lanes_of board e = 1
 -- the FPGAs of net n
 abbrev pub terminals_of : Board → ℕ → List ℕ
 terminals_of board n = slice_index_or board.nets n []
+
+-- the source of net n: the first of its FPGAs
+abbrev pub source_of : Board → ℕ → ℕ
+source_of board n = slice_index (terminals_of board n) 0
+
+-- all wires of the board together join the FPGAs of each net
+abbrev pub AllConnectable : Board → Type 0
+AllConnectable board = (n : ℕ) → n < length board.nets → IsConnectable board (terminals_of board n)
 
 -- a ratio that a net may have on a wire: positive and even
 abbrev pub IsEvenRatio : ℕ → Type 0

@@ -8,3 +8,9 @@ pub mod Legal
 pub mod Value
 pub mod Rows
 pub mod Firsts
+pub mod Samples
+pub mod Sums
+pub mod Weights
+pub mod Roots
+pub mod Users
+pub mod Laws

@@ -2,7 +2,10 @@
 //! which solutions are legal and what they are worth.
 #![tactic(auto)]
 
+#[cfg(test)]
+mod definitions;
 mod firsts;
+mod laws;
 mod limits;
 mod problem;
 mod rows;
@@ -12,6 +15,7 @@ mod tests;
 mod trees;
 mod wire;
 
+pub use laws::{even, exchange, root_is_exact, tangent, users_have_the_ratios};
 pub use limits::{MAX_FPGAS, MAX_GROUPS, MAX_LISTED_FPGAS, MAX_LISTED_NETS, MAX_NETS, MAX_WIRES};
 pub use problem::{Problem, ProblemDraft};
 pub use solution::{Solution, WireUse};
