@@ -6,6 +6,8 @@
 #![tactic(auto)]
 
 mod cursor;
+#[cfg(test)]
+mod definitions;
 mod digits;
 mod line;
 mod scan;
