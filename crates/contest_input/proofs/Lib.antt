@@ -3,3 +3,4 @@ pub mod Progress
 pub mod WireProgress
 pub mod ListProgress
 pub mod WholeText
+pub mod Accepted

@@ -1,5 +1,6 @@
 //! What holds of board texts by their definition alone.
-ghost use Rattle.std.specs.Prelude.{◌≡◌, ◌+◌, ℕ, List, take};
+ghost use Rattle.std.specs.Prelude.{◌≡◌, ◌+◌, ℕ, List, take, Ok};
+ghost use Rattle.tdm_problem.specs.Board.{Board, IsBoard};
 ghost use Rattle.contest_input.specs.BoardText.{board_of};
 
 use crate::MAX_BOARD_BYTES;
@@ -7,4 +8,9 @@ use crate::MAX_BOARD_BYTES;
 /// A text that is cut one byte past the longest says what the whole text says, so no more of it need be read.
 pub fn a_cut_text_says_the_same()
     ensures { (text : List ℕ) → board_of (take (MAX_BOARD_BYTES + 1) text) ≡ board_of text }
+{}
+
+/// The board that a text describes keeps to the limits, and all its numbers name something.
+pub fn a_text_describes_a_board()
+    ensures { (text : List ℕ) (board : Board) → board_of text ≡ Ok board → IsBoard board }
 {}

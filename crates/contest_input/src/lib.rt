@@ -1,6 +1,8 @@
 //! The text of a board: its wires, nets and groups, or the first thing that is wrong with it.
 #![tactic(auto)]
 
+#[cfg(test)]
+mod definitions;
 mod fault;
 mod groups;
 mod header;
@@ -16,7 +18,7 @@ mod wires;
 
 pub use fault::{BoardFault, BoardRefusal};
 pub use kind::BoardKind;
-pub use law::a_cut_text_says_the_same;
+pub use law::{a_cut_text_says_the_same, a_text_describes_a_board};
 pub use read::read_board;
 
 /// The most bytes of a board text.
