@@ -7,3 +7,4 @@ pub mod PassLaws
 pub mod Forests
 pub mod ClimbLaws
 pub mod Connected
+mod SampleParents

@@ -1,8 +1,10 @@
 -- The baseline tree of a net: each of its FPGAs goes to the source by parent wires.
-use Rattle.std.specs.Prelude.{◌≡◌, ℕ, ◌+◌, ◌≤◌, ◌↔◌, List, [], ◌∷◌, Contains}
+use Rattle.std.specs.Prelude.{◌≡◌, ℕ, ◌+◌, ◌<◌, ◌≤◌, ◌↔◌, List, [], ◌∷◌, length, Contains}
 use Rattle.std.specs.List.Sorted.{IsStrictlyIncreasing}
 use Rattle.tdm_problem.specs.Board.{Board}
 use Rattle.tdm_problem.specs.Walk.{Links}
+use Rattle.tdm_problem.specs.Legal.{source_of, terminals_of}
+use Rattle.tdm_problem.specs.Trees.{tree_of}
 use Rattle.tdm_problem.specs.Distance.{IsHopCount}
 
 -- FPGA u is one hop nearer to the source than FPGA v
@@ -29,3 +31,8 @@ pub record IsBaseTree (board : Board) (source : ℕ) (fpgas : List ℕ) (wires :
   pub rising : IsStrictlyIncreasing wires
   pub reached : (t : ℕ) → Contains fpgas t → (es : List ℕ) × IsParentChain board source t es source
   pub exact : (e : ℕ) → Contains wires e ↔ IsOnChain board source fpgas e
+
+-- each net of the board has its baseline tree
+pub record AreBaseTrees (board : Board) (trees : List (List ℕ)) : Type 0 where
+  pub nets : length trees ≡ length board.nets
+  pub each : (n : ℕ) → n < length board.nets → IsBaseTree board (source_of board n) (terminals_of board n) (tree_of trees n)

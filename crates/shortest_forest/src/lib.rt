@@ -2,6 +2,8 @@
 #![tactic(auto)]
 
 mod baseline;
+#[cfg(test)]
+mod definitions;
 mod forest;
 mod search;
 #[cfg(test)]
