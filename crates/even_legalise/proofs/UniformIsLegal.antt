@@ -6,7 +6,7 @@ use Rattle.std.proofs.lemmas.List.Elements.{All-map, All-weaker}
 use Rattle.std.proofs.lemmas.List.Kept.{AllPairs-from_increasing}
 use Rattle.std.specs.List.Sorted.{IsStrictlyIncreasing}
 use Rattle.tdm_problem.specs.Board.{Board}
-use Rattle.tdm_problem.specs.Routing.{uses_of, wires_of, ratios_of, IsFor}
+use Rattle.tdm_problem.specs.Routing.{uses_of, wires_of, ratios_of, IsFor, HasRisingWires}
 use Rattle.tdm_problem.specs.Trees.{tree_of, AreTreesFor, HasRisingRows}
 use Rattle.tdm_problem.specs.Walk.{Joins}
 use Rattle.tdm_problem.specs.Fit.{FitsLanes}
@@ -29,6 +29,14 @@ uniform_is_for board trees for rising = record {
       (λ n none inside. All-map (λ u. u.wire < length board.wires) (uniform_use board trees) (get_or trees n none) (for.there n none inside));
   distinct = All-map (λ uses. AllPairs (λ d e. d ≢ e) (wires_of uses)) (λ wires. map (uniform_use board trees) wires) trees
       (λ n none inside. subst (λ wires. AllPairs (λ d e. d ≢ e) wires) (sym (wires_of_uniform board trees (get_or trees n none))) (distinct_rows trees rising n none inside));
+}
+
+-- wires rise in the uniform routing as in the trees
+pub uniform_wires_rise : (board : Board) (trees : List (List ℕ)) → HasRisingRows trees → HasRisingWires (uniform_routing board trees)
+uniform_wires_rise board trees rising = record {
+  net_limit = omega (arith, length-map trees (λ wires. map (uniform_use board trees) wires), rising.net_limit);
+  rising = All-map (λ uses. IsStrictlyIncreasing (wires_of uses)) (λ wires. map (uniform_use board trees) wires) trees
+      (λ n none inside. subst IsStrictlyIncreasing (sym (wires_of_uniform board trees (get_or trees n none))) (rising.rising n none inside));
 }
 
 -- what holds of each wire's ratio holds of each ratio of the routing

@@ -2,6 +2,8 @@
 #![tactic(auto)]
 
 mod counts;
+#[cfg(test)]
+mod definitions;
 mod ratio;
 mod solution;
 

@@ -1,7 +1,7 @@
 //! The solution with one ratio for all nets of a wire.
 ghost use Rattle.std.specs.Prelude.{◌≡◌, ℕ, ◌*◌, ◌<◌, ◌≤◌, ◌^◌, length, map, slice_index, All, IfOk, OnOk};
 ghost use Rattle.tdm_problem.specs.declared.solution.WireUse.{WireUse};
-ghost use Rattle.tdm_problem.specs.Routing.{ratios_of};
+ghost use Rattle.tdm_problem.specs.Routing.{ratios_of, HasRisingWires};
 ghost use Rattle.tdm_problem.specs.Trees.{AreTreesFor};
 ghost use Rattle.tdm_problem.specs.Legal.{IsLegal};
 ghost use Rattle.even_legalise.specs.Uniform.{uniform_ratio, uniform_routing, JoinsEachNet, CountsNets};
@@ -27,6 +27,7 @@ pub fn uniform_solution(
     ensures ratios { IfOk result (λ solution. solution ≡ uniform_routing problem.now trees.now) }
     ensures legal { IfOk result (λ solution. IsLegal problem.now solution) }
     ensures small { IfOk result (λ solution. All (λ uses. All (λ ratio. ratio < 2 ^ 32) (ratios_of uses)) solution) }
+    ensures rising { IfOk result HasRisingWires }
 {
     let counts = nets_on_wires(alloc, trees, problem.wires())?;
     with_uniform_ratios(alloc, problem, trees, &counts)
