@@ -2,7 +2,6 @@ pub mod Sorting
 pub mod Marking
 pub mod ReadingOn
 pub mod ForBoard
-pub mod UnderWay
 pub mod Uses
 pub mod ReadsBack
 pub mod Size

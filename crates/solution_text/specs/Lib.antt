@@ -4,5 +4,4 @@ pub mod Reading
 pub mod Fault
 pub mod Steps
 pub mod Reader
-pub mod Writing
 pub mod Sayable

@@ -4,8 +4,9 @@
 //! use a line with the wire and the ratio.
 #![tactic(auto)]
 
+#[cfg(test)]
+mod definitions;
 mod laws;
-mod pending;
 mod read;
 mod refusal;
 #[cfg(test)]

@@ -6,12 +6,11 @@ ghost use Rattle.std.specs.List.{flat_map};
 ghost use Rattle.tdm_desk.specs.Seen.{output_is_open, written, PrefixWritten};
 ghost use Rattle.tdm_desk.specs.Counts.{CountsFaults, WritingFailed};
 ghost use Rattle.solution_text.specs.Text.{use_line, net_text, solution_text};
-ghost use Rattle.solution_text.specs.Writing.{number_then, IsUnderWay};
+ghost use Rattle.text_writer.specs.Writing.{number_then, IsUnderWay};
 
-use crate::pending::{Pending, ROOM};
-use tdm_desk::{Desk, DeskFault, OutSlot, write_whole};
-use tdm_lines::decimal;
+use tdm_desk::{Desk, DeskFault, OutSlot};
 use tdm_problem::{Solution, WireUse};
+use text_writer::{Pending, flush, put_number};
 
 /// Adds the text of a solution to the file of an open output: for each net, in order, a line with the
 /// number of its uses, and then for each use a line with the wire and the ratio. Without nets the text
@@ -35,68 +34,6 @@ pub fn write_solution<D: Desk>(
     let mut pending = Pending::new();
     put_nets(desk, slot, &mut pending, solution)?;
     flush(desk, slot, &mut pending)?;
-    Ok(())
-}
-
-// Writes what is pending.
-fn flush<D: Desk>(desk: &mut D, slot: OutSlot, pending: &mut Pending) -> Result<(), DeskFault>
-    requires { IsTrue (output_is_open slot (D.seen desk.old)) }
-    ensures ok { OnOk result (D.seen desk.new ≡ written slot pending.old (D.seen desk.old)) }
-    ensures emptied { OnOk result (pending.new ≡ []) }
-    ensures err { OnErr result (PrefixWritten slot pending.old
-        (D.seen desk.old) (D.seen desk.new)) }
-    ensures failed { IsErrOf result DeskFault.Failed →
-        WritingFailed D.counts D.steady desk.old desk.new }
-    ensures counted { CountsFaults D.counts D.steady desk.old desk.new }
-{
-    write_whole(desk, slot, pending.as_slice())?;
-    pending.clear();
-    Ok(())
-}
-
-// Adds a piece to the text. Where there is no room for it, what is pending is written first.
-fn put<D: Desk>(
-    desk: &mut D,
-    slot: OutSlot,
-    pending: &mut Pending,
-    piece: &[u8],
-) -> Result<(), DeskFault>
-    requires open { IsTrue (output_is_open slot (D.seen desk.old)) }
-    requires short { length piece.now ≤ ROOM }
-    ensures ok { OnOk result (IsUnderWay slot (pending.old ++ piece.now)
-        (D.seen desk.old) pending.new (D.seen desk.new)) }
-    ensures err { OnErr result (PrefixWritten slot (pending.old ++ piece.now)
-        (D.seen desk.old) (D.seen desk.new)) }
-    ensures failed { IsErrOf result DeskFault.Failed →
-        WritingFailed D.counts D.steady desk.old desk.new }
-    ensures counted { CountsFaults D.counts D.steady desk.old desk.new }
-{
-    if pending.room() < piece.len() {
-        flush(desk, slot, pending)?;
-    }
-    pending.extend(piece);
-    Ok(())
-}
-
-// Adds a number to the text, and the byte behind it.
-fn put_number<D: Desk>(
-    desk: &mut D,
-    slot: OutSlot,
-    pending: &mut Pending,
-    number: u64,
-    end: u8,
-) -> Result<(), DeskFault>
-    requires { IsTrue (output_is_open slot (D.seen desk.old)) }
-    ensures ok { OnOk result (IsUnderWay slot (pending.old ++ number_then number end)
-        (D.seen desk.old) pending.new (D.seen desk.new)) }
-    ensures err { OnErr result (PrefixWritten slot (pending.old ++ number_then number end)
-        (D.seen desk.old) (D.seen desk.new)) }
-    ensures failed { IsErrOf result DeskFault.Failed →
-        WritingFailed D.counts D.steady desk.old desk.new }
-    ensures counted { CountsFaults D.counts D.steady desk.old desk.new }
-{
-    put(desk, slot, pending, decimal(number as u128).as_bytes())?;
-    put(desk, slot, pending, &[end])?;
     Ok(())
 }
 

@@ -3,7 +3,7 @@ use Rattle.std.specs.List.{flat_map}
 use Rattle.std.proofs.lemmas.Result.{err_from_is_err_and}
 use Rattle.tdm_lines.specs.Written.{line_text}
 use Rattle.solution_text.specs.Text.{use_line}
-use Rattle.solution_text.proofs.UnderWay.{fault_in_first, fault_in_second, both_parts}
+use Rattle.text_writer.proofs.UnderWay.{fault_in_first, fault_in_second, both_parts}
 use Rattle.solution_text.proofs.write.put_net.Goals as goal
 
 pub returns-in_err-put_number-clause-err : goal.returns-in_err-put_number-clause-err

@@ -1,7 +1,7 @@
 use Rattle.std.proofs.Common.{arith, [], ◌<◌, length}
 use Rattle.std.proofs.lemmas.Result.{err_from_is_err_and}
 use Rattle.solution_text.specs.Text.{net_text}
-use Rattle.solution_text.proofs.UnderWay.{brings_none, brings_more, brings_fault}
+use Rattle.text_writer.proofs.UnderWay.{brings_none, brings_more, brings_fault}
 use Rattle.solution_text.proofs.write.put_nets.Goals as goal
 
 pub loop-net-init : goal.loop-net-init

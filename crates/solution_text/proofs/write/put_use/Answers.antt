@@ -1,10 +1,17 @@
-use Rattle.std.proofs.Common.{◌++◌, subst}
+use Rattle.std.proofs.Common.{◌≡◌, [], ◌∷◌, ◌++◌, sym, subst, ◌∙◌, append_assoc}
 use Rattle.std.proofs.lemmas.Result.{err_from_is_err_and}
 use Rattle.tdm_desk.specs.Files.{Bytes}
 use Rattle.tdm_desk.specs.Seen.{PrefixWritten}
-use Rattle.solution_text.specs.Writing.{number_then, IsUnderWay}
-use Rattle.solution_text.proofs.UnderWay.{fault_in_first, fault_in_second, both_parts, use_line_parts}
+use Rattle.tdm_lines.specs.Digits.{digits}
+use Rattle.tdm_problem.specs.declared.solution.WireUse.{WireUse}
+use Rattle.solution_text.specs.Text.{use_line}
+use Rattle.text_writer.specs.Writing.{number_then, IsUnderWay}
+use Rattle.text_writer.proofs.UnderWay.{fault_in_first, fault_in_second, both_parts}
 use Rattle.solution_text.proofs.write.put_use.Goals as goal
+
+-- the line of a use, number by number
+use_line_parts : (u : WireUse) → number_then u.wire 32 ++ number_then u.ratio 10 ≡ use_line u
+use_line_parts u = append_assoc (digits u.wire) (32 ∷ []) (number_then u.ratio 10) ∙ sym (append_assoc (digits u.wire) (32 ∷ digits u.ratio) (10 ∷ []))
 
 pub returns-in_err-put_number-clause-err : goal.returns-in_err-put_number-clause-err
 returns-in_err-put_number-clause-err g c =

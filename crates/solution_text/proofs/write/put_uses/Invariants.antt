@@ -1,7 +1,7 @@
 use Rattle.std.proofs.Common.{◌++◌, take}
 use Rattle.std.specs.List.{flat_map}
 use Rattle.solution_text.specs.Text.{use_line}
-use Rattle.solution_text.specs.Writing.{Brings}
+use Rattle.text_writer.specs.Writing.{Brings}
 use Rattle.solution_text.proofs.write.put_uses.Given as goal
 
 abbrev pub invariant-loop-used : goal.invariant-loop-used

@@ -1,6 +1,6 @@
 use Rattle.std.proofs.lemmas.Result.{err_from_is_err_and}
 use Rattle.solution_text.specs.Text.{solution_text}
-use Rattle.solution_text.proofs.UnderWay.{under_way_all, prefix_rest}
+use Rattle.text_writer.proofs.UnderWay.{under_way_all, prefix_rest}
 use Rattle.solution_text.proofs.write.write_solution.Goals as goal
 
 pub returns-in_err-flush-clause-err : goal.returns-in_err-flush-clause-err

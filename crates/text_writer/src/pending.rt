@@ -8,7 +8,7 @@ pub(crate) const ROOM: usize = 4096;
 
 /// Bytes that are still to be written, gathered so that a desk is handed many at once.
 #[derive(Drop)]
-pub(crate) struct Pending {
+pub struct Pending {
     bytes: [u8; ROOM],
     len: usize,
 }
@@ -25,7 +25,7 @@ impl Model for Pending {
 
 impl Pending {
     /// No bytes.
-    pub(crate) fn new() -> Pending
+    pub fn new() -> Pending
         ensures { result ≡ [] }
     {
         Pending {

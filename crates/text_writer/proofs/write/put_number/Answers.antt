@@ -1,8 +1,8 @@
 use Rattle.std.proofs.Common.{◌≡◌, ◌∷◌, [], ◌∙◌}
 use Rattle.std.proofs.lemmas.Result.{err_from_is_err_and}
 use Rattle.tdm_lines.specs.Digits.{digits}
-use Rattle.solution_text.proofs.UnderWay.{fault_in_first, fault_in_second, both_parts}
-use Rattle.solution_text.proofs.write.put_number.Goals as goal
+use Rattle.text_writer.proofs.UnderWay.{fault_in_first, fault_in_second, both_parts}
+use Rattle.text_writer.proofs.write.put_number.Goals as goal
 
 pub returns-in_err-put-clause-err : goal.returns-in_err-put-clause-err
 returns-in_err-put-clause-err g c =

@@ -1,8 +1,8 @@
 use Rattle.std.proofs.Common.{◌∙◌}
 use Rattle.std.proofs.lemmas.Result.{err_from_is_err_and}
-use Rattle.solution_text.proofs.UnderWay.{under_way_none, under_way_written, under_way_more, prefix_first}
-use Rattle.solution_text.proofs.write.put.Goals as goal
-use Rattle.solution_text.proofs.write.put.Goals.{then-room-piece+in_ok-flush, else-room-piece}
+use Rattle.text_writer.proofs.UnderWay.{under_way_none, under_way_written, under_way_more, prefix_first}
+use Rattle.text_writer.proofs.write.put.Goals as goal
+use Rattle.text_writer.proofs.write.put.Goals.{then-room-piece+in_ok-flush, else-room-piece}
 
 pub returns-in_err-flush-clause-err : goal.returns-in_err-flush-clause-err
 returns-in_err-flush-clause-err g c =

@@ -10,10 +10,7 @@ use Rattle.tdm_desk.specs.Seen.{Seen, written, output_is_open, PrefixWritten}
 use Rattle.tdm_desk.proofs.SeenLaws.{written-written, written-nothing, output_is_open-written}
 use Rattle.tdm_desk.specs.Counts.{Counts, CountsFaults}
 use Rattle.tdm_desk.proofs.CountLaws.{counts_nothing, counts_both}
-use Rattle.tdm_problem.specs.declared.solution.WireUse.{WireUse}
-use Rattle.tdm_lines.specs.Digits.{digits}
-use Rattle.solution_text.specs.Text.{use_line}
-use Rattle.solution_text.specs.Writing.{number_then, IsUnderWay, Brings}
+use Rattle.text_writer.specs.Writing.{IsUnderWay, Brings}
 
 -- a front of the first part is a front of the whole
 take-front : (k : ℕ) (a b : Bytes) → take k a ≡ take (min k (length a)) (a ++ b)
@@ -99,10 +96,6 @@ module _ (slot : OutSlot) (pending a b : Bytes) where
   pub both_parts : (before : Seen) (rest : Bytes) (between : Seen) (later : Bytes) (after : Seen) → IsUnderWay slot (pending ++ a) before rest between → IsUnderWay slot (rest ++ b) between later after → IsUnderWay slot (pending ++ (a ++ b)) before later after
   both_parts before rest between later after first second =
       subst (λ (text : Bytes). IsUnderWay slot text before later after) (append_assoc pending a b) (under_way_both slot (pending ++ a) before rest between b later after first second)
-
--- the line of a use, number by number
-pub use_line_parts : (u : WireUse) → number_then u.wire 32 ++ number_then u.ratio 10 ≡ use_line u
-use_line_parts u = append_assoc (digits u.wire) (32 ∷ []) (number_then u.ratio 10) ∙ sym (append_assoc (digits u.wire) (32 ∷ digits u.ratio) (10 ∷ []))
 
 -- ---- the parts of a list, one after another
 
