@@ -2,6 +2,8 @@
 #![tactic(auto)]
 
 mod bad_use;
+#[cfg(test)]
+mod definitions;
 mod joined;
 mod judgement;
 mod overfull;
