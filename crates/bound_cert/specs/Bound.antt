@@ -1,0 +1,71 @@
+-- The number that a certificate bounds the value of every legal solution by.
+use Rattle.std.specs.Prelude.{ℕ, zero, suc, ◌-◌, ◌*◌, min, List, [], ◌∷◌, length, map, sum, sum_by}
+use Rattle.std.specs.Int.{div_ceil}
+use Rattle.tdm_problem.specs.Board.{Board}
+use Rattle.tdm_problem.specs.Legal.{terminals_of}
+use Rattle.tdm_problem.specs.Value.{largest}
+use Rattle.tdm_problem.specs.Sums.{sum_below}
+use Rattle.tdm_problem.specs.Weights.{net_weight}
+use Rattle.tdm_problem.specs.Roots.{root_of}
+use Rattle.bound_cert.specs.declared.certificate.CertKind.{CertKind}
+use Rattle.bound_cert.specs.declared.certificate.CertKind.TheVariants.{Share, Hop}
+use Rattle.bound_cert.specs.Certificate.{Cert, potential_of, value_at, choice_of}
+
+-- the smallest of the numbers, 0 of none
+abbrev pub smallest : List ℕ → ℕ
+smallest [] = 0
+smallest (x ∷ []) = x
+smallest (x ∷ y ∷ xs) = min x (smallest (y ∷ xs))
+
+-- how far a potential's values at these FPGAs lie apart
+abbrev pub spread : (potential fpgas : List ℕ) → ℕ
+spread potential fpgas = largest (map (value_at potential) fpgas) - smallest (map (value_at potential) fpgas)
+
+-- how far the values of the chosen potential lie apart, 0 where none is chosen
+abbrev pub chosen_spread : Cert → (fpgas : List ℕ) → (choice : ℕ) → ℕ
+chosen_spread cert fpgas zero = 0
+chosen_spread cert fpgas (suc p) = spread (potential_of cert p) fpgas
+
+-- how far the values of the potential that net n chooses lie apart over its FPGAs
+abbrev pub net_spread : Board → Cert → (n : ℕ) → ℕ
+net_spread board cert n = chosen_spread cert (terminals_of board n) (choice_of cert n)
+
+-- the weight of net n, and its root
+abbrev pub weight_of_net : Board → Cert → (n : ℕ) → ℕ
+weight_of_net board cert n = net_weight board.groups cert.weights n
+
+abbrev pub root_of_net : Board → Cert → (n : ℕ) → ℕ
+root_of_net board cert n = root_of (weight_of_net board cert n)
+
+-- the spreads of all nets, by the roots of their weights
+abbrev pub root_spreads : Board → Cert → ℕ
+root_spreads board cert = sum_below (length board.nets) (λ n. root_of_net board cert n * net_spread board cert n)
+
+-- the spreads of all nets, by their weights
+abbrev pub weight_spreads : Board → Cert → ℕ
+weight_spreads board cert = sum_below (length board.nets) (λ n. weight_of_net board cert n * net_spread board cert n)
+
+-- what the bound times the divisor must reach, 0 where that is negative
+abbrev pub demand_of_kind : CertKind → Board → Cert → ℕ
+demand_of_kind Share board cert = 2 * root_spreads board cert - sum_by (λ l. l * l) cert.lengths
+demand_of_kind (Hop unit) board cert = 2 * weight_spreads board cert
+
+abbrev pub demand_of : Board → Cert → ℕ
+demand_of board cert = demand_of_kind cert.kind board cert
+
+-- what the bound is multiplied by: the sum of all weights, by hops times the unit
+abbrev pub divisor_of_kind : CertKind → (weights : List ℕ) → ℕ
+divisor_of_kind Share weights = sum weights
+divisor_of_kind (Hop unit) weights = unit * sum weights
+
+abbrev pub divisor_of : Cert → ℕ
+divisor_of cert = divisor_of_kind cert.kind cert.weights
+
+-- the least even number that, times the divisor, is at least the demand; 0 where the divisor is 0
+abbrev pub least_even : (demand divisor : ℕ) → ℕ
+least_even demand zero = 0
+least_even demand (suc d) = 2 * div_ceil demand (2 * suc d)
+
+-- the bound of the certificate
+abbrev pub bound_of : Board → Cert → ℕ
+bound_of board cert = least_even (demand_of board cert) (divisor_of cert)

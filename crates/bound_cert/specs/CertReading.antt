@@ -1,0 +1,122 @@
+-- What a text says: a certificate for the board, or the first refusal.
+use Rattle.std.specs.Prelude.{ℕ, zero, suc, ◌^◌, ◌==◌, ◌&&◌, ◌||◌, not, nat_lt, if◌then◌else◌, List, [], ◌∷◌, length, replicate, Option, None, Some, Result, Ok, Err}
+use Rattle.tdm_problem.specs.Board.{Board}
+use Rattle.tdm_lines.specs.declared.line.TokenFault.{TokenFault}
+use Rattle.tdm_lines.specs.declared.line.TokenFault.TheVariants as token
+use Rattle.tdm_lines.specs.Lines.{Line, lines, line_after}
+use Rattle.bound_cert.specs.declared.certificate.CertKind.{CertKind}
+use Rattle.bound_cert.specs.declared.certificate.CertKind.TheVariants.{Share, Hop}
+use Rattle.bound_cert.specs.declared.header.Header.{Header}
+use Rattle.bound_cert.specs.declared.limits.TheConstants.{MAX_WEIGHT, MAX_LENGTH, MAX_UNIT, MAX_POTENTIALS, MAX_POTENTIAL_VALUE}
+use Rattle.bound_cert.specs.declared.refusal.CertTextKind.{CertTextKind}
+use Rattle.bound_cert.specs.declared.refusal.CertTextKind.TheVariants.{NoHeader, BadNumber, NumberTooLarge, WrongCount, BadVersion, BadKind, BadUnit, CountLimit, WeightLimit, LengthLimit, UnknownPotential, MissingLine, ExtraLine, TooLong}
+use Rattle.bound_cert.specs.declared.refusal.CertRefusal.{CertRefusal}
+use Rattle.bound_cert.specs.Certificate.{Cert}
+
+-- the most bytes of a certificate text
+abbrev pub most_bytes : ℕ
+most_bytes = 2 ^ 30
+
+-- a refusal of this kind, which names this line
+abbrev pub refused : {A : Type 0} → CertTextKind → ℕ → Result A CertRefusal
+refused kind line = Err (record { kind = kind; line = line })
+
+infixl 10 ◌>>=◌
+-- the first refusal stands
+abbrev pub ◌>>=◌ : {A B : Type 0} → Result A CertRefusal → (A → Result B CertRefusal) → Result B CertRefusal
+(Ok said) >>= next = next said
+(Err refusal) >>= next = Err refusal
+
+-- ---- what a line says
+
+-- the line and those behind it, unless its tokens have a fault
+abbrev pub unless_bad : Option TokenFault → Line → List Line → Result (Line × List Line) CertRefusal
+unless_bad None line more = Ok (line, more)
+unless_bad (Some token.BadNumber) line more = refused BadNumber line.number
+unless_bad (Some token.NumberTooLarge) line more = refused NumberTooLarge line.number
+
+-- the kind of this number, with a unit that it may have
+abbrev pub kind_said : ℕ → (kind unit : ℕ) → Result CertKind CertRefusal
+kind_said line kind unit =
+    if kind == 1 then (if unit == 0 then Ok Share else refused BadUnit line)
+    else (if kind == 2 then (if unit == 0 || nat_lt MAX_UNIT unit then refused BadUnit line else Ok (Hop unit))
+    else refused BadKind line)
+
+-- how many potentials there are: none where they would have no value
+abbrev pub count_said : (fpgas line count : ℕ) → Result ℕ CertRefusal
+count_said fpgas line count =
+    if nat_lt MAX_POTENTIALS count || (fpgas == 0 && nat_lt 0 count) then refused CountLimit line else Ok count
+
+-- a header has four numbers: version 1, a kind, its unit, and how many potentials there are
+abbrev pub header_said : ℕ → ℕ → List ℕ → Result Header CertRefusal
+header_said fpgas line (version ∷ kind ∷ unit ∷ count ∷ []) =
+    if not (version == 1) then refused BadVersion line
+    else (do
+      kind ← kind_said line kind unit
+      potentials ← count_said fpgas line count
+      Ok (record { kind = kind; potentials = potentials }))
+header_said fpgas line numbers = refused WrongCount line
+
+-- a line of one number, which is at most the limit
+abbrev pub number_said : CertTextKind → ℕ → ℕ → List ℕ → Result ℕ CertRefusal
+number_said above limit line (n ∷ []) = if nat_lt limit n then refused above line else Ok n
+number_said above limit line numbers = refused WrongCount line
+
+-- the line of a potential has a value for each FPGA
+abbrev pub potential_said : ℕ → ℕ → List ℕ → Result (List ℕ) CertRefusal
+potential_said fpgas line values = if length values == fpgas then Ok values else refused WrongCount line
+
+-- ---- what the lines say, one after another
+
+-- the certificate, unless a line is left
+abbrev pub unless_more : Cert → List Line → Result Cert CertRefusal
+unless_more cert [] = Ok cert
+unless_more cert (line ∷ more) = refused ExtraLine line.number
+
+module _ (after : ℕ) where
+  -- the next line and those behind it; where none is left, the line after the text is named
+  abbrev pub next_line : CertTextKind → List Line → Result (Line × List Line) CertRefusal
+  next_line missing [] = refused missing after
+  next_line missing (line ∷ more) = unless_bad line.fault line more
+
+  -- what the next line says, and the lines behind it
+  abbrev pub line_from : {A : Type 0} → CertTextKind → (ℕ → List ℕ → Result A CertRefusal) → List Line → Result (A × List Line) CertRefusal
+  line_from missing said lines = do
+    next ← next_line missing lines
+    x ← said next.0.number next.0.numbers
+    Ok (x, next.1)
+
+  -- what each of so many lines says, and the lines behind them
+  abbrev pub section_from : {A : Type 0} → (ℕ → List ℕ → Result A CertRefusal) → ℕ → List Line → Result (List A × List Line) CertRefusal
+  section_from said zero lines = Ok ([], lines)
+  section_from said (suc count) lines = do
+    first ← line_from MissingLine said lines
+    rest ← section_from said count first.1
+    Ok (first.0 ∷ rest.0, rest.1)
+
+  -- the length of each wire: a line for each, or the unit and no line
+  abbrev pub lengths_from : CertKind → ℕ → List Line → Result (List ℕ × List Line) CertRefusal
+  lengths_from Share wires lines = section_from (number_said LengthLimit MAX_LENGTH) wires lines
+  lengths_from (Hop unit) wires lines = Ok (replicate wires unit, lines)
+
+  -- the header, then the weights, lengths, potentials and choices, and no line behind them
+  abbrev pub cert_from : Board → List Line → Result Cert CertRefusal
+  cert_from board lines = do
+    header ← line_from NoHeader (header_said board.fpgas) lines
+    weights ← section_from (number_said WeightLimit MAX_WEIGHT) (length board.groups) header.1
+    lengths ← lengths_from header.0.kind (length board.wires) weights.1
+    potentials ← section_from (potential_said board.fpgas) header.0.potentials lengths.1
+    choices ← section_from (number_said UnknownPotential header.0.potentials) (length board.nets) potentials.1
+    unless_more (record {
+      kind = header.0.kind;
+      weights = weights.0;
+      lengths = lengths.0;
+      potentials = potentials.0;
+      choices = choices.0;
+    }) choices.1
+
+-- the certificate for the board that the text says, or the first refusal
+abbrev pub cert_of : Board → List ℕ → Result Cert CertRefusal
+cert_of board text =
+    if nat_lt most_bytes (length text) then refused TooLong 0
+    else cert_from (line_after text) board (lines MAX_POTENTIAL_VALUE text)

@@ -1,0 +1,15 @@
+pub mod Certificate
+pub mod Valid
+pub mod Bound
+pub mod Laws
+pub mod Samples
+pub mod CertText
+pub mod CertKinds
+pub mod CertReading
+pub mod CertFaults
+pub mod CertReader
+pub mod Sources
+pub mod Depths
+pub mod Floors
+pub mod Makers
+pub mod Scaling

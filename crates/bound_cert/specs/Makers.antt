@@ -1,0 +1,75 @@
+-- The certificates that are made from hops.
+use Rattle.std.specs.Prelude.{◌≡◌, ℕ, ◌+◌, ◌<◌, ◌≤◌, ◌⊎◌, List, [], length, slice_index, slice_index_or}
+use Rattle.tdm_problem.specs.Board.{Board}
+use Rattle.tdm_problem.specs.Distance.{IsDistance}
+use Rattle.shortest_forest.specs.Reach.{HasNoWalk}
+use Rattle.bound_cert.specs.declared.certificate.CertKind.TheVariants.{Share, Hop}
+use Rattle.bound_cert.specs.declared.limits.TheConstants.{UNIFORM_WEIGHT}
+use Rattle.bound_cert.specs.Certificate.{Cert, weight_of, length_of, value_at}
+use Rattle.tdm_problem.specs.Legal.{source_of}
+use Rattle.bound_cert.specs.Sources.{roots_of}
+use Rattle.bound_cert.specs.Depths.{AreDepths, group_depth}
+use Rattle.bound_cert.specs.Floors.{uniform_length}
+
+-- the value at FPGA f is its distance from the root, or 0 where no wires lead there
+abbrev pub IsRootValue : Board → (ℕ → ℕ) → (root f value : ℕ) → Type 0
+IsRootValue board wire_length root f value = IsDistance board wire_length root f value ⊎ (HasNoWalk board root f × (value ≡ 0))
+
+-- each FPGA's value is its distance from the root, or 0 where no wires lead there
+pub record IsRootPotential (board : Board) (wire_length : ℕ → ℕ) (root : ℕ) (potential : List ℕ) : Type 0 where
+  pub count : length potential ≡ board.fpgas
+  pub values : (f : ℕ) → f < board.fpgas → IsRootValue board wire_length root f (value_at potential f)
+
+-- there is a potential for each of these FPGAs, in order
+pub record ArePotentialsFrom (board : Board) (wire_length : ℕ → ℕ) (roots : List ℕ) (potentials : List (List ℕ)) : Type 0 where
+  pub count : length potentials ≡ length roots
+  pub each : (p : ℕ) → p < length roots → IsRootPotential board wire_length (slice_index roots p) (slice_index_or potentials p [])
+
+-- there is a potential for each root, in order
+abbrev pub AreRootPotentials : Board → (ℕ → ℕ) → List (List ℕ) → Type 0
+AreRootPotentials board wire_length potentials = ArePotentialsFrom board wire_length (roots_of board) potentials
+
+-- the number, less 1, is that of the source among the roots
+pub record IsChoiceAmong (roots : List ℕ) (source choice : ℕ) : Type 0 where
+  pub root : ℕ
+  pub there : root < length roots
+  pub choice_is : choice ≡ root + 1
+  pub source_is : slice_index roots root ≡ source
+
+-- each net chooses the potential of its source
+pub record ChooseSources (board : Board) (choices : List ℕ) : Type 0 where
+  pub count : length choices ≡ length board.nets
+  pub each : (n : ℕ) → n < length board.nets → IsChoiceAmong (roots_of board) (source_of board n) (slice_index choices n)
+
+-- the potentials are those of the roots, at the certificate's lengths, and each net chooses that of its source
+pub record HasRootPotentials (board : Board) (cert : Cert) : Type 0 where
+  pub potentials : AreRootPotentials board (length_of cert) cert.potentials
+  pub choices : ChooseSources board cert.choices
+
+-- the depths of group g's nets are together the most, and those of each group before it are less
+pub record IsFirstDeepest (board : Board) (depths : List ℕ) (g : ℕ) : Type 0 where
+  pub there : g < length board.groups
+  pub most : (k : ℕ) → k < length board.groups → group_depth depths (slice_index_or board.groups k []) ≤ group_depth depths (slice_index_or board.groups g [])
+  pub first : (k : ℕ) → k < g → group_depth depths (slice_index_or board.groups k []) < group_depth depths (slice_index_or board.groups g [])
+
+-- the group has weight 1 where it is the first of the deepest, and else 0
+abbrev pub IsHopWeight : Board → (depths : List ℕ) → (g weight : ℕ) → Type 0
+IsHopWeight board depths g weight = (IsFirstDeepest board depths g × (weight ≡ 1)) ⊎ ((IsFirstDeepest board depths g → ⊥) × (weight ≡ 0))
+
+-- the certificate by hops of unit 1, for the first of the deepest groups
+pub record IsHopGroupCert (board : Board) (cert : Cert) : Type 0 where
+  pub depths : List ℕ
+  pub are_depths : AreDepths board depths
+  pub kind : cert.kind ≡ Hop 1
+  pub weights : (g : ℕ) → g < length board.groups → IsHopWeight board depths g (weight_of cert g)
+  pub lengths : (e : ℕ) → e < length board.wires → length_of cert e ≡ 1
+  pub potentials : HasRootPotentials board cert
+
+-- the certificate by shares with one weight for all groups and one length for all wires
+pub record IsUniformShareCert (board : Board) (cert : Cert) : Type 0 where
+  pub depths : List ℕ
+  pub are_depths : AreDepths board depths
+  pub kind : cert.kind ≡ Share
+  pub weights : (g : ℕ) → g < length board.groups → weight_of cert g ≡ UNIFORM_WEIGHT
+  pub lengths : (e : ℕ) → e < length board.wires → length_of cert e ≡ uniform_length board depths
+  pub potentials : HasRootPotentials board cert

@@ -1,0 +1,24 @@
+-- Certificates of small boards, on which the definitions are computed.
+use Rattle.std.specs.Prelude.{ℕ, List, [], ◌∷◌}
+use Rattle.bound_cert.specs.declared.certificate.CertKind.TheVariants.{Share, Hop}
+use Rattle.bound_cert.specs.Certificate.{Cert}
+
+-- by shares, for two FPGAs and a wire: one group's weight, the wire's length, one potential with its two values, and each net's choice
+abbrev pub wire_cert : (weight wire_length first second : ℕ) → (choices : List ℕ) → Cert
+wire_cert weight wire_length first second choices = record {
+  kind = Share;
+  weights = weight ∷ [];
+  lengths = wire_length ∷ [];
+  potentials = (first ∷ second ∷ []) ∷ [];
+  choices = choices;
+}
+
+-- by hops of length 1, for the star and its one net: the hops from the end of the first arm
+abbrev pub star_cert : Cert
+star_cert = record {
+  kind = Hop 1;
+  weights = 1 ∷ [];
+  lengths = 1 ∷ 1 ∷ 1 ∷ [];
+  potentials = (1 ∷ 0 ∷ 2 ∷ 2 ∷ []) ∷ [];
+  choices = 1 ∷ [];
+}

@@ -1,0 +1,78 @@
+//! Certificates, their texts and their bounds, computed on small boards.
+ghost use Rattle.std.specs.Prelude.{◌≡◌, [], ◌∷◌, codes, Ok, Err};
+ghost use Rattle.tdm_problem.specs.Samples.{pair, shared, star};
+ghost use Rattle.bound_cert.specs.Bound.{bound_of, least_even, smallest, spread};
+ghost use Rattle.bound_cert.specs.CertReading.{cert_of};
+ghost use Rattle.bound_cert.specs.CertText.{cert_text};
+ghost use Rattle.bound_cert.specs.declared.refusal.CertTextKind.TheVariants.{BadKind, BadNumber, BadUnit, BadVersion, CountLimit, ExtraLine, LengthLimit, MissingLine, NoHeader, NumberTooLarge, UnknownPotential, WeightLimit, WrongCount};
+ghost use Rattle.bound_cert.specs.Floors.{hop_floor, part_of};
+ghost use Rattle.bound_cert.specs.Sources.{roots_of};
+ghost use Rattle.bound_cert.specs.Certificate.{IsCert, IsCertFor};
+ghost use Rattle.bound_cert.specs.Samples.{star_cert, wire_cert};
+ghost use Rattle.bound_cert.specs.Valid.{IsSteep, IsValid};
+
+/// Bounds of certificates for three nets on one wire, and for the star.
+fn bounds_are_raised_to_even_numbers()
+    ensures share { bound_of shared (wire_cert 1 3 0 3 (1 ∷ 1 ∷ 1 ∷ [])) ≡ 10 }
+    ensures root_of_two { bound_of shared (wire_cert 2 3 0 3 (1 ∷ 1 ∷ 1 ∷ [])) ≡ 6 }
+    ensures negative { bound_of shared (wire_cert 1 3 0 3 (0 ∷ 0 ∷ 0 ∷ [])) ≡ 0 }
+    ensures no_weight { bound_of shared (wire_cert 0 3 0 3 (1 ∷ 1 ∷ 1 ∷ [])) ≡ 0 }
+    ensures hop { bound_of star star_cert ≡ 4 }
+{}
+
+/// A spread goes from the smallest value to the largest, and a bound is the least even number that is enough.
+fn spreads_and_least_even_numbers()
+    ensures spread { spread (1 ∷ 0 ∷ 2 ∷ 7 ∷ []) (2 ∷ 0 ∷ 1 ∷ []) ≡ 2 }
+    ensures one { spread (1 ∷ 0 ∷ 2 ∷ 7 ∷ []) (3 ∷ []) ≡ 0 }
+    ensures smallest { smallest (3 ∷ 1 ∷ 2 ∷ []) ≡ 1 }
+    ensures raised { least_even 9 1 ≡ 10 }
+    ensures divided { least_even 9 2 ≡ 6 }
+    ensures exact { least_even 8 2 ≡ 4 }
+{}
+
+/// A potential may rise along a wire by its length, either way, and no more.
+fn a_potential_rises_by_the_length_at_most()
+    ensures certificate { IsCert (wire_cert 1 3 0 3 (1 ∷ 1 ∷ 1 ∷ [])) }
+    ensures for_board { IsCertFor shared (wire_cert 1 3 0 3 (1 ∷ 1 ∷ 1 ∷ [])) }
+    ensures gentle { IsValid shared (wire_cert 1 3 0 3 (1 ∷ 1 ∷ 1 ∷ [])) }
+    ensures hops_are_gentle { IsValid star star_cert }
+    ensures steep { IsSteep shared (wire_cert 1 3 0 4 (1 ∷ 1 ∷ 1 ∷ [])) 0 0 }
+    ensures steep_back { IsSteep shared (wire_cert 1 3 4 0 (1 ∷ 1 ∷ 1 ∷ [])) 0 0 }
+    ensures not_valid { ¬ IsValid shared (wire_cert 1 3 0 4 (1 ∷ 1 ∷ 1 ∷ [])) }
+{}
+
+/// The texts of certificates of both kinds, and what these texts say.
+fn certificates_have_texts()
+    ensures share { cert_text (wire_cert 1 3 0 3 (1 ∷ 1 ∷ 1 ∷ [])) ≡ codes "1 1 0 1\n1\n3\n0 3\n1\n1\n1\n" }
+    ensures hop { cert_text star_cert ≡ codes "1 2 1 1\n1\n1 0 2 2\n1\n" }
+    ensures reads_share { cert_of shared (codes "1 1 0 1\n1\n3\n0 3\n1\n1\n1\n") ≡ Ok (wire_cert 1 3 0 3 (1 ∷ 1 ∷ 1 ∷ [])) }
+    ensures reads_hop { cert_of star (codes "1 2 01 1\r\n1\n\n1 0 2\t2\n1") ≡ Ok star_cert }
+{}
+
+/// The first line at fault is told, with what is wrong with it.
+fn the_first_fault_decides()
+    ensures no_header { cert_of pair (codes "\n") ≡ Err (record { kind = NoHeader; line = 2 }) }
+    ensures bad_number { cert_of pair (codes "1 1 0 x\n") ≡ Err (record { kind = BadNumber; line = 1 }) }
+    ensures too_large { cert_of pair (codes "1 1 0 1\n1\n1\n0 1152921504606846976\n1\n") ≡ Err (record { kind = NumberTooLarge; line = 4 }) }
+    ensures wrong_count { cert_of pair (codes "1 1 0\n") ≡ Err (record { kind = WrongCount; line = 1 }) }
+    ensures few_values { cert_of pair (codes "1 1 0 1\n1\n1\n0\n1\n") ≡ Err (record { kind = WrongCount; line = 4 }) }
+    ensures bad_version { cert_of pair (codes "2 1 0 0\n") ≡ Err (record { kind = BadVersion; line = 1 }) }
+    ensures bad_kind { cert_of pair (codes "1 3 0 0\n") ≡ Err (record { kind = BadKind; line = 1 }) }
+    ensures bad_unit { cert_of pair (codes "1 1 1 0\n") ≡ Err (record { kind = BadUnit; line = 1 }) }
+    ensures no_unit { cert_of pair (codes "1 2 0 0\n") ≡ Err (record { kind = BadUnit; line = 1 }) }
+    ensures count_limit { cert_of pair (codes "1 1 0 5000\n") ≡ Err (record { kind = CountLimit; line = 1 }) }
+    ensures weight_limit { cert_of pair (codes "1 1 0 0\n1099511627777\n") ≡ Err (record { kind = WeightLimit; line = 2 }) }
+    ensures length_limit { cert_of pair (codes "1 1 0 0\n1\n281474976710657\n") ≡ Err (record { kind = LengthLimit; line = 3 }) }
+    ensures unknown_potential { cert_of pair (codes "1 1 0 1\n1\n1\n0 1\n2\n") ≡ Err (record { kind = UnknownPotential; line = 5 }) }
+    ensures missing_line { cert_of pair (codes "1 1 0 0\n1\n1\n") ≡ Err (record { kind = MissingLine; line = 4 }) }
+    ensures extra_line { cert_of pair (codes "1 1 0 0\n1\n1\n0\nx") ≡ Err (record { kind = ExtraLine; line = 5 }) }
+{}
+
+/// The sources of nets, each once, and the floor by hops of the star, whose net is two hops deep.
+fn sources_and_floors()
+    ensures sources { roots_of (record shared { nets = (1 ∷ 0 ∷ []) ∷ (0 ∷ []) ∷ (1 ∷ []) ∷ [] }) ≡ 1 ∷ 0 ∷ [] }
+    ensures floor { hop_floor star (2 ∷ []) ≡ 4 }
+    ensures no_group { hop_floor (record star { groups = [] }) (2 ∷ []) ≡ 0 }
+    ensures part { part_of 9 2 ≡ 4 }
+    ensures no_parts { part_of 9 0 ≡ 0 }
+{}

@@ -1,0 +1,73 @@
+//! The header of a certificate text.
+ghost use Rattle.std.specs.Prelude.{◌≤◌, ◌<◌, Ok, IfOk};
+ghost use Rattle.bound_cert.specs.CertReading.{kind_said, count_said, header_said};
+ghost use Rattle.bound_cert.specs.CertFaults.{Leads};
+ghost use Rattle.bound_cert.specs.CertReader.{HasUnit};
+ghost use Rattle.bound_cert.specs.declared.limits.TheConstants.{MAX_POTENTIALS};
+
+use crate::certificate::CertKind;
+use crate::limits::{MAX_POTENTIALS, MAX_UNIT};
+use crate::refusal::{CertFault, CertTextKind, refused};
+
+// What a header says: the kind, and how many potentials there are.
+#[derive(Clone, Copy)]
+pub(crate) struct Header {
+    pub(crate) kind: CertKind,
+    pub(crate) potentials: u32,
+}
+
+// The kind of this number, with a unit that it may have.
+fn kind_said(line: u32, kind: u64, unit: u64) -> Result<CertKind, CertFault>
+    ensures said { Leads result (kind_said line kind unit) Ok }
+    ensures unit { IfOk result HasUnit }
+{
+    match kind {
+        1 => {
+            if unit == 0 {
+                Ok(CertKind::Share)
+            } else {
+                Err(refused(CertTextKind::BadUnit, line))
+            }
+        }
+        2 => {
+            if unit == 0 || unit > MAX_UNIT {
+                Err(refused(CertTextKind::BadUnit, line))
+            } else {
+                Ok(CertKind::Hop { unit })
+            }
+        }
+        _ => Err(refused(CertTextKind::BadKind, line)),
+    }
+}
+
+// How many potentials there are: none where they would have no value.
+fn count_said(fpgas: u32, line: u32, count: u64) -> Result<u32, CertFault>
+    ensures said { Leads result (count_said fpgas line count) Ok }
+    ensures few { IfOk result (λ count. count ≤ MAX_POTENTIALS) }
+    ensures some { IfOk result (λ count. 0 < count → 0 < fpgas) }
+{
+    if count > MAX_POTENTIALS as u64 || (fpgas == 0 && count > 0) {
+        return Err(refused(CertTextKind::CountLimit, line));
+    }
+    Ok(count as u32)
+}
+
+// What a header of these numbers says.
+pub(crate) fn header_said(fpgas: u32, line: u32, numbers: &[u64]) -> Result<Header, CertFault>
+    ensures said { Leads result (header_said fpgas line numbers.now) Ok }
+    ensures few { IfOk result (λ header. header.potentials ≤ MAX_POTENTIALS) }
+    ensures some { IfOk result (λ header. 0 < header.potentials → 0 < fpgas) }
+    ensures kind { IfOk result (λ header. HasUnit header.kind) }
+{
+    match numbers {
+        [version, kind, unit, count] => {
+            if *version != 1 {
+                return Err(refused(CertTextKind::BadVersion, line));
+            }
+            let kind = kind_said(line, *kind, *unit)?;
+            let potentials = count_said(fpgas, line, *count)?;
+            Ok(Header { kind, potentials })
+        }
+        _ => Err(refused(CertTextKind::WrongCount, line)),
+    }
+}

@@ -1,0 +1,100 @@
+//! Why a text is no certificate.
+ghost use Rattle.std.specs.Prelude.{◌≡◌};
+ghost use Rattle.bound_cert.specs.CertKinds.{name_of};
+ghost use Rattle.bound_cert.specs.declared.refusal.CertFault.TheVariants.{NoMemory};
+
+use std::alloc::AllocError;
+use thiserror::Error;
+
+/// What is wrong with a text that is no certificate. On one line, the earlier kind is named.
+#[derive(Clone, Copy, Debug, PartialEq, Eq)]
+pub enum CertTextKind {
+    /// No line of the text has a token.
+    NoHeader,
+    /// Some token of the line is not one or more decimal digits.
+    BadNumber,
+    /// Some number of the line is above 2^60 - 1.
+    NumberTooLarge,
+    /// The line has another number of tokens than its place asks for.
+    WrongCount,
+    /// The header's version is not 1.
+    BadVersion,
+    /// The header's kind is neither 1 nor 2.
+    BadKind,
+    /// The header's unit is one that its kind cannot have: other than 0 for kind 1, 0 or above 2^20 for kind 2.
+    BadUnit,
+    /// The header has more than 4,096 potentials, or some where the board has no FPGAs.
+    CountLimit,
+    /// A weight is above 2^40.
+    WeightLimit,
+    /// A length is above 2^48.
+    LengthLimit,
+    /// A net chooses a potential that is not there.
+    UnknownPotential,
+    /// The text ends before its last line.
+    MissingLine,
+    /// A line stands after the last one.
+    ExtraLine,
+    /// The text has more than 2^30 bytes.
+    TooLong,
+}
+
+impl CertTextKind {
+    /// The kind's name, as reports print it.
+    pub fn name(self) -> &'static str
+        ensures { result.now ≡ name_of self }
+    {
+        match self {
+            CertTextKind::NoHeader => "NoHeader",
+            CertTextKind::BadNumber => "BadNumber",
+            CertTextKind::NumberTooLarge => "NumberTooLarge",
+            CertTextKind::WrongCount => "WrongCount",
+            CertTextKind::BadVersion => "BadVersion",
+            CertTextKind::BadKind => "BadKind",
+            CertTextKind::BadUnit => "BadUnit",
+            CertTextKind::CountLimit => "CountLimit",
+            CertTextKind::WeightLimit => "WeightLimit",
+            CertTextKind::LengthLimit => "LengthLimit",
+            CertTextKind::UnknownPotential => "UnknownPotential",
+            CertTextKind::MissingLine => "MissingLine",
+            CertTextKind::ExtraLine => "ExtraLine",
+            CertTextKind::TooLong => "TooLong",
+        }
+    }
+}
+
+/// What is wrong with a text, and on which line.
+#[derive(Clone, Copy, Debug, PartialEq, Eq)]
+pub struct CertRefusal {
+    /// What is wrong.
+    pub kind: CertTextKind,
+    /// The line at fault, from 1. A missing line or header is said to stand where the text ends, on the line that is
+    /// the number of line feeds plus 1; 0 for TooLong.
+    pub line: u32,
+}
+
+/// Why reading a certificate gave none.
+#[derive(Clone, Copy, Debug, PartialEq, Eq, Error)]
+pub enum CertFault {
+    /// The text is no certificate for the board.
+    #[error("the certificate text is refused")]
+    Refused(CertRefusal),
+    /// Memory was wanting.
+    #[error("memory was wanting")]
+    NoMemory,
+}
+
+impl From<AllocError> for CertFault {
+    ghost from_gives = { λ _ fault. fault ≡ NoMemory };
+
+    fn from(_error: AllocError) -> CertFault {
+        CertFault::NoMemory
+    }
+}
+
+// A refusal of this kind, which names this line.
+pub(crate) fn refused(kind: CertTextKind, line: u32) -> CertFault
+    ensures { result ≡ CertFault.Refused (record { kind = kind; line = line }) }
+{
+    CertFault::Refused(CertRefusal { kind, line })
+}

@@ -1,0 +1,151 @@
+//! Certificates of small boards, read and written.
+use crate::{CertFault, CertKind, CertRefusal, CertTextKind, Certificate, read_cert, write_cert};
+use std::alloc::Global;
+use std::process::Abort;
+use std::test::Fail;
+use tdm_desk::{Desk, DeskFault, MemoryDesk, OutSlot};
+use tdm_problem::{Problem, ProblemDraft, Wire};
+
+// Two FPGAs with a wire between them, and a group of one net on both.
+fn board(alloc: Global) -> Result<Problem, Fail> {
+    let mut draft = ProblemDraft::new(alloc, 2);
+    draft.push_wire(Wire { a: 0, b: 1 })?;
+    draft.push_net(&[0, 1])?;
+    draft.push_group(&[0])?;
+    Ok(draft.into_problem())
+}
+
+// The same board with two further nets in the group.
+fn board_of_three_nets(alloc: Global) -> Result<Problem, Fail> {
+    let mut draft = ProblemDraft::new(alloc, 2);
+    draft.push_wire(Wire { a: 0, b: 1 })?;
+    draft.push_net(&[0, 1])?;
+    draft.push_net(&[0, 1])?;
+    draft.push_net(&[0, 1])?;
+    draft.push_group(&[0, 1, 2])?;
+    Ok(draft.into_problem())
+}
+
+fn assert_refused(
+    rt: &impl Abort,
+    alloc: Global,
+    problem: &Problem,
+    text: &[u8],
+    kind: CertTextKind,
+    line: u32,
+) {
+    let answer = read_cert(alloc, text, problem).err();
+    let refusal = CertRefusal { kind, line };
+    assert!(rt;
+        answer == Some(CertFault::Refused(refusal)),
+        "{}",
+        kind.name()
+    );
+}
+
+#[test]
+fn refuses_the_first_line_at_fault(rt: HostRuntime) -> Result<(), Fail> {
+    let alloc = rt.alloc();
+    let problem = board(alloc)?;
+    assert_refused(&rt, alloc, &problem, b"1 3 0 0\n", CertTextKind::BadKind, 1);
+    assert_refused(&rt, alloc, &problem, b"1 1 1 0\n", CertTextKind::BadUnit, 1);
+    assert_refused(
+        &rt,
+        alloc,
+        &problem,
+        b"1 1 0 5000\n",
+        CertTextKind::CountLimit,
+        1,
+    );
+    assert_refused(
+        &rt,
+        alloc,
+        &problem,
+        b"2 1 0 0\n",
+        CertTextKind::BadVersion,
+        1,
+    );
+    assert_refused(&rt, alloc, &problem, b"\n \n", CertTextKind::NoHeader, 3);
+    assert_refused(
+        &rt,
+        alloc,
+        &problem,
+        b"1 2 1 0\n",
+        CertTextKind::MissingLine,
+        2,
+    );
+    assert_refused(
+        &rt,
+        alloc,
+        &problem,
+        b"1 2 1 0\n1\n0\n7\n",
+        CertTextKind::ExtraLine,
+        4,
+    );
+    let weight = b"1 1 0 0\n1099511627777\n";
+    assert_refused(&rt, alloc, &problem, weight, CertTextKind::WeightLimit, 2);
+    let length = b"1 1 0 0\n1\n281474976710657\n";
+    assert_refused(&rt, alloc, &problem, length, CertTextKind::LengthLimit, 3);
+    let choice = b"1 1 0 1\n1\n1\n0 1\n2\n";
+    assert_refused(
+        &rt,
+        alloc,
+        &problem,
+        choice,
+        CertTextKind::UnknownPotential,
+        5,
+    );
+    let value = b"1 1 0 1\n1\n1\n0 1152921504606846976\n1\n";
+    assert_refused(&rt, alloc, &problem, value, CertTextKind::NumberTooLarge, 4);
+    Ok(())
+}
+
+// A desk in memory with the file of the certificate.
+fn written(alloc: Global, cert: &Certificate) -> Result<MemoryDesk, Fail> {
+    let mut desk = MemoryDesk::new(alloc);
+    write_file(&mut desk, cert)?;
+    Ok(desk)
+}
+
+#[tactic(auto, using(tdm_desk::proofs::SeenLaws::after_calls))]
+fn write_file<D: Desk>(desk: &mut D, cert: &Certificate) -> Result<(), DeskFault> {
+    desk.create(OutSlot::Out0, "c")?;
+    write_cert(desk, OutSlot::Out0, cert)?;
+    Ok(())
+}
+
+// The text reads as a certificate of this kind, which is written as the canonical text.
+fn assert_canonical(
+    rt: &impl Abort,
+    alloc: Global,
+    problem: &Problem,
+    text: &[u8],
+    kind: CertKind,
+    canonical: &[u8],
+) -> Result<(), Fail> {
+    let cert = match read_cert(alloc, text, problem) {
+        Ok(cert) => cert,
+        Err(_) => {
+            assert!(rt; false, "refused");
+            return Ok(());
+        }
+    };
+    assert!(rt; cert.kind() == kind);
+    assert_eq!(rt; cert.potentials(), 1);
+    let desk = written(alloc, &cert)?;
+    assert!(rt; desk.file("c") == Some(canonical));
+    Ok(())
+}
+
+#[test]
+fn reads_and_writes_both_kinds(rt: HostRuntime) -> Result<(), Fail> {
+    let alloc = rt.alloc();
+    let problem = board_of_three_nets(alloc)?;
+    let share = b" 1 1\t0 01\r\n1\n\n3\n0 3\n1\n1\n1";
+    let canonical = b"1 1 0 1\n1\n3\n0 3\n1\n1\n1\n";
+    assert_canonical(&rt, alloc, &problem, share, CertKind::Share, canonical)?;
+    let hop = b"1 2 1048576 1\n5\n0 1048576\n1\n0\n1\n";
+    let kind = CertKind::Hop { unit: 1_048_576 };
+    assert_canonical(&rt, alloc, &problem, hop, kind, hop)?;
+    Ok(())
+}
