@@ -1,0 +1,5 @@
+pub mod Steeps
+pub mod NetWeightSums
+pub mod Spreading
+pub mod RootSums
+pub mod AnswerLaws

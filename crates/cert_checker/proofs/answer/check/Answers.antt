@@ -1,0 +1,6 @@
+use Rattle.cert_checker.specs.declared.answer.CheckAnswer.TheVariants.{Rejected}
+use Rattle.cert_checker.proofs.AnswerLaws.{answer_unique}
+use Rattle.cert_checker.proofs.answer.check.Goals as goal
+
+pub returns-in-Some-clause-only : goal.returns-in-Some-clause-only
+returns-in-Some-clause-only c = λ other right. answer_unique c.args.problem.now c.args.cert.now (Rejected c.in-Some.steep) other c.in-Some.ensures.first right

@@ -1,0 +1,3 @@
+pub mod Steep
+pub mod NetWeights
+pub mod Answer

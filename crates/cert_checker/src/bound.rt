@@ -1,0 +1,103 @@
+//! The bound of a certificate.
+ghost use Rattle.std.specs.Prelude.{◌≡◌, ◌*◌, ◌<◌, ◌≤◌, ◌^◌, length, map, sum, sum_by};
+ghost use Rattle.tdm_problem.specs.Roots.{root_of};
+ghost use Rattle.tdm_problem.specs.Board.{IsBoard};
+ghost use Rattle.bound_cert.specs.Certificate.{IsCert, IsCertFor};
+ghost use Rattle.bound_cert.specs.Valid.{IsValid};
+ghost use Rattle.cert_checker.specs.Answer.{IsLowerBound};
+ghost use Rattle.bound_cert.specs.Bound.{demand_of, divisor_of, least_even, bound_of};
+ghost use Rattle.cert_checker.specs.NetWeights.{AreNetWeights};
+
+use crate::spread::sum_of_spreads;
+use bound_cert::{CertKind, Certificate};
+use integer_root::isqrt;
+use tdm_problem::Problem;
+
+/// The bound that the certificate carries, by the weights of the nets.
+pub(crate) fn bound(problem: &Problem, cert: &Certificate, weights: Vec<u64>) -> u128
+    requires is_for { IsCertFor problem.now cert.now }
+    requires weights { AreNetWeights problem.now cert.now weights.items }
+    ensures value { result ≡ bound_of problem.now cert.now }
+    ensures lower { IsBoard problem.now → IsValid problem.now cert.now → IsLowerBound problem.now result }
+{
+    least_even(demand(problem, cert, weights), divisor(problem, cert))
+}
+
+/// What the bound times the divisor must reach, 0 where that is negative.
+fn demand(problem: &Problem, cert: &Certificate, mut weights: Vec<u64>) -> u128
+    requires is_for { IsCertFor problem.now cert.now }
+    requires weights { AreNetWeights problem.now cert.now weights.items }
+    ensures ranges { IsCert cert.now }
+    ensures value { result ≡ demand_of problem.now cert.now }
+    ensures within { result ≤ 2 ^ 125 }
+{
+    match cert.kind() {
+        CertKind::Share => {
+            take_roots(&mut weights);
+            let spreads = 2 * sum_of_spreads(problem, cert, &weights);
+            spreads.saturating_sub(sum_of_squares(problem, cert))
+        }
+        CertKind::Hop { unit: _ } => 2 * sum_of_spreads(problem, cert, &weights),
+    }
+}
+
+/// Puts the whole square root of each number in its place.
+fn take_roots(numbers: &mut [u64])
+    requires { sum numbers.old ≤ 2 ^ 64 }
+    ensures { numbers.new ≡ map root_of numbers.old }
+{
+    for number in numbers.iter_mut() {
+        *number = u64::from(isqrt(*number));
+    }
+}
+
+/// The sum of the squares of all wires' lengths.
+fn sum_of_squares(problem: &Problem, cert: &Certificate) -> u128
+    requires { IsCertFor problem.now cert.now }
+    ensures { result ≡ sum_by (λ l. l * l) cert.now.lengths }
+{
+    let mut total = 0;
+    for e in 0..problem.wires() {
+        let length = u128::from(cert.length(e));
+        total += length * length;
+    }
+    total
+}
+
+/// What the bound is multiplied by: the sum of all weights, by hops times the unit.
+fn divisor(problem: &Problem, cert: &Certificate) -> u128
+    requires { IsCertFor problem.now cert.now }
+    ensures value { result ≡ divisor_of cert.now }
+    ensures within { result ≤ 2 ^ 80 }
+{
+    let weights = u128::from(sum_of_weights(problem, cert));
+    match cert.kind() {
+        CertKind::Share => weights,
+        CertKind::Hop { unit } => u128::from(unit) * weights,
+    }
+}
+
+/// The sum of the weights of all groups.
+fn sum_of_weights(problem: &Problem, cert: &Certificate) -> u64
+    requires { IsCertFor problem.now cert.now }
+    ensures value { result ≡ sum cert.now.weights }
+    ensures within { result ≤ 2 ^ 60 }
+{
+    let mut total = 0;
+    for g in 0..problem.groups() {
+        total += cert.weight(g);
+    }
+    total
+}
+
+/// The least even number that, times the divisor, is at least the demand; 0 where the divisor is 0.
+fn least_even(demand: u128, divisor: u128) -> u128
+    requires demand_within { demand ≤ 2 ^ 125 }
+    requires divisor_within { divisor ≤ 2 ^ 80 }
+    ensures { result ≡ least_even demand divisor }
+{
+    if divisor == 0 {
+        return 0;
+    }
+    2 * demand.div_ceil(2 * divisor)
+}

@@ -1,0 +1,15 @@
+//! Checking certificates: whether their potentials are gentle enough, and what they bound the value of every legal
+//! solution by. Nothing here rests on how a certificate was made.
+#![tactic(auto)]
+
+mod answer;
+mod bound;
+mod net_weights;
+mod spread;
+mod steep;
+
+pub use answer::{CheckAnswer, check};
+pub use steep::{Steep, first_steep};
+
+#[cfg(test)]
+mod tests;
