@@ -1,24 +1,24 @@
 -- How the baseline of a board comes from the trees of its nets.
-use Rattle.std.proofs.Common.{◌≡◌, ◌⊎◌, ℕ, zero, suc, ◌+◌, ◌<◌, ◌≤◌, ◌==◌, true, false, List, [], ◌∷◌, length, map, slice_index_or, slice_index, refl, sym, ap, subst, ◌∙◌, inl, inr, arith, Contains, All, zero-add}
+use Rattle.std.proofs.Common.{◌≡◌, ◌⊎◌, ℕ, zero, suc, ◌+◌, ◌^◌, ◌<◌, ◌≤◌, ◌==◌, true, false, List, [], ◌∷◌, length, map, slice_index_or, slice_index, refl, sym, ap, subst, ◌∙◌, inl, inr, arith, Contains, All, zero-add}
 use Rattle.std.specs.Prelude.{sum_by, Option, Some, None, IsSome, Result, Ok, Err, OnOk}
 use Rattle.std.proofs.lemmas.List.{length-map, nil_from_length}
 use Rattle.std.proofs.lemmas.Bool.{eqb-true}
 use Rattle.std.proofs.lemmas.List.Elements.{Contains-append_cases}
 use Rattle.std.proofs.lemmas.List.Sums.{sum_by-append}
 use Rattle.tdm_problem.specs.Board.{Board, IsBoard, IsRowBelow}
-use Rattle.tdm_problem.specs.Routing.{Routing, uses_of, wires_of}
+use Rattle.tdm_problem.specs.Routing.{Routing, uses_of, wires_of, ratios_of, HasRisingWires}
 use Rattle.tdm_problem.specs.Walk.{AnyWire, IsMinimalTree}
-use Rattle.tdm_problem.specs.Legal.{IsLegal, terminals_of}
+use Rattle.tdm_problem.specs.Legal.{IsLegal, terminals_of, source_of, AllConnectable}
 use Rattle.tdm_problem.specs.Trees.{tree_of, trees_of, AreTreesFor}
 use Rattle.tdm_problem.proofs.Walks.{AnyWire-from_links}
 use Rattle.board_graph.specs.Graph.{Graph}
 use Rattle.even_legalise.specs.Uniform.{uniform_routing, uniform_use, JoinsEachNet}
 use Rattle.even_legalise.proofs.UniformLaws.{wires_of_uniform, uses_of_map}
 use Rattle.shortest_forest.specs.Reach.{Reach, IsHopForest}
-use Rattle.shortest_forest.specs.Baseline.{IsBaseTree, IsParentChain}
+use Rattle.shortest_forest.specs.Baseline.{IsBaseTree, IsParentChain, AreBaseTrees}
 use Rattle.shortest_forest.proofs.BaselineLaws.{base-tree-minimal, base-tree-unique}
 use Rattle.tdm_cli.specs.declared.baseline.TheConstants.{MAX_USES}
-use Rattle.tdm_cli.specs.Baseline.{source_of, AreBaseTrees, AllConnectable, IsBaseline, AreUnconnectable, IsOverUseLimit}
+use Rattle.tdm_cli.specs.Baseline.{IsBaseline, AreUnconnectable, IsOverUseLimit}
 use Rattle.tdm_cli.specs.Progress.{AreBasedSoFar, IsProgress, HasForestAt}
 
 -- ---- sources
@@ -170,14 +170,15 @@ module _ (board : Board) (is : IsBoard board) (trees : List (List ℕ)) (base : 
       ∙ ap (λ s. s + sum_by length all) (length-map wires (uniform_use board trees))
       ∙ sym (sum-cons wires all)
 
-  pub baseline-of : AllConnectable board → sum_by length trees ≤ MAX_USES → (solution : Routing) → solution ≡ uniform_routing board trees → IsLegal board solution → IsBaseline board solution
-  baseline-of joined few solution same legal = record {
+  pub baseline-of : AllConnectable board → sum_by length trees ≤ MAX_USES → (solution : Routing) → solution ≡ uniform_routing board trees → IsLegal board solution → All (λ uses. All (λ ratio. ratio < 2 ^ 32) (ratios_of uses)) solution → HasRisingWires solution → IsBaseline board solution
+  baseline-of joined few solution same legal small rising = record {
     joined = joined;
     legal = legal;
     minimal = λ n h. subst (λ r. IsMinimalTree board (wires_of (uses_of r n)) (terminals_of board n)) (sym same) (subst (λ w. IsMinimalTree board w (terminals_of board n)) (sym (wires-same n)) (base-minimal-each n h));
     base = subst (λ r. AreBaseTrees board (trees_of r)) (sym same) (subst (AreBaseTrees board) (sym (same-trees trees)) base);
     uniform = same ∙ ap (uniform_routing board) (sym (ap trees_of same ∙ same-trees trees));
     few = subst (λ r. sum_by length r ≤ MAX_USES) (sym same) (rw (same-lengths trees) few);
+    sayable = record { limits = is; is_for = legal.is_for; rising = rising; short = small };
   }
 
 -- ---- what a baseline says of the board

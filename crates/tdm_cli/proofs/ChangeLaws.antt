@@ -31,6 +31,13 @@ changes_then_says {before} {between} {after} {change} {more} {later} first secon
   said = both (λ s. s ++ more) (λ s. s ++ later) (λ s. s ++ (more ++ later)) (said_of before) (said_of between) (said_of after) (λ s. append_assoc s more later) first.said second.said;
 }
 
+-- one change without a word, and then another
+pub changes_twice : (before between after : Seen) (one two : Files → Files) (more : Bytes) → Changes before between one [] → Changes between after two more → Changes before after (λ files. two (one files)) more
+changes_twice before between after one two more first second = record {
+  files = both one two (λ files. two (one files)) (files_of before) (files_of between) (files_of after) (λ f. refl) first.files second.files;
+  said = both (λ s. s ++ []) (λ s. s ++ more) (λ s. s ++ more) (said_of before) (said_of between) (said_of after) (λ s. ap (λ t. t ++ more) (append-nil s)) first.said second.said;
+}
+
 -- nothing is said, and then there is a change
 pub silence_then_changes : {before between after : Seen} {change : Files → Files} {more : Bytes} → Says before between [] → Changes between after change more → Changes before after change more
 silence_then_changes {before} {between} {after} {change} {more} first second = record {

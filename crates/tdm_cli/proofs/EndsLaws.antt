@@ -12,8 +12,9 @@ use Rattle.tdm_cli.specs.declared.status.Status.{Status}
 use Rattle.tdm_cli.specs.declared.status.Status.TheVariants as status
 use Rattle.tdm_cli.specs.Change.{Changes, Says}
 use Rattle.tdm_cli.specs.Saying.{Concludes}
-use Rattle.tdm_cli.specs.Ends.{OnlySpoke, MayHoldPart, DeliveryEnds}
-use Rattle.tdm_cli.proofs.ChangeLaws.{changes_then_says, changes_written, says_output_closed}
+use Rattle.tdm_cli.specs.Ends.{OnlySpoke, UnreadEnds, BoardInputEnds, MayHoldPart, MayHoldParts, DeliveryEnds}
+use Rattle.tdm_cli.specs.TwoFiles.{with_two_files}
+use Rattle.tdm_cli.proofs.ChangeLaws.{changes_then_says, changes_twice, silence_then_changes, changes_written, says_output_closed}
 use Rattle.tdm_cli.proofs.InputLaws.{test-true}
 
 -- ---- writing a file
@@ -41,20 +42,58 @@ pub whole-part : (name : Name) (text more : Bytes) (before after : Seen) → Cha
 whole-part name text more before after changes =
     inr (length text, more, subst (λ t. Changes before after (with_file name t) more) (sym (take_all (length text) text (omega arith))) changes)
 
+-- the first file was written, and the second holds a first part of its text
+pub second-part : (first second : Name) (text other : Bytes) (before between after : Seen) → Changes before between (with_file first text) [] → MayHoldPart between after second other → MayHoldParts before after first text second other
+second-part first second text other before between after written (inl spoke) =
+    inl (whole-part first text spoke.0 before after (changes_then_says written spoke.1))
+second-part first second text other before between after written (inr part) =
+    inr (part.0, part.1, changes_twice before between after (with_file first text) (with_file second (take part.0 other)) part.1 written part.2)
+
+-- both files were written
+pub both-written : (first second : Name) (text other : Bytes) (before between after : Seen) → Changes before between (with_file first text) [] → Changes between after (with_file second other) [] → Changes before after (with_two_files first text second other) []
+both-written first second text other before between after one two = changes_twice before between after (with_file first text) (with_file second other) [] one two
+
+-- two whole texts are first parts too
+pub whole-parts : (first second : Name) (text other more : Bytes) (before after : Seen) → Changes before after (with_two_files first text second other) more → MayHoldParts before after first text second other
+whole-parts first second text other more before after changes =
+    inr (length other, more, subst (λ t. Changes before after (with_two_files first text second t) more) (sym (take_all (length other) other (omega arith))) changes)
+
 module _ {D : Type 0} (counts : D → Counts) (steady : D → Type 0) (seen : D → Seen) where
-  -- a file that was written, and a report
-  pub delivered : (before between after : D) (name : Name) (text report : Bytes) (answer : Status) → Changes (seen before) (seen between) (with_file name text) [] → Concludes counts steady seen between after report status.Ok answer → DeliveryEnds (seen before) (seen after) name text report answer
-  delivered before between after name text report answer changes (inl all) =
-      subst (DeliveryEnds (seen before) (seen after) name text report) (sym all.stands) (changes_then_says changes all.says)
-  delivered before between after name text report answer changes (inr stops) = by stops.answers
+  -- two files that were written, and a report
+  pub delivered : (before between after : D) (first : Name) (text : Bytes) (second : Name) (other report : Bytes) (answer : Status) → Changes (seen before) (seen between) (with_two_files first text second other) [] → Concludes counts steady seen between after report status.Ok answer → DeliveryEnds (seen before) (seen after) first text second other report answer
+  delivered before between after first text second other report answer changes (inl all) =
+      subst (DeliveryEnds (seen before) (seen after) first text second other report) (sym all.stands) (changes_then_says changes all.says)
+  delivered before between after first text second other report answer changes (inr stops) = by stops.answers
     where
-      part : MayHoldPart (seen before) (seen after) name text
-      part = whole-part name text stops.more (seen before) (seen after) (changes_then_says changes stops.says)
+      part : MayHoldParts (seen before) (seen after) first text second other
+      part = whole-parts first second text other stops.more (seen before) (seen after) (changes_then_says changes stops.says)
 
-      by : ((answer ≡ status.WriteFault) × WritingFailed counts steady between after) ⊎ (answer ≡ status.OutOfMemory) → DeliveryEnds (seen before) (seen after) name text report answer
-      by (inl fault) = subst (DeliveryEnds (seen before) (seen after) name text report) (sym fault.0) part
-      by (inr memory) = subst (DeliveryEnds (seen before) (seen after) name text report) (sym memory) part
+      by : ((answer ≡ status.WriteFault) × WritingFailed counts steady between after) ⊎ (answer ≡ status.OutOfMemory) → DeliveryEnds (seen before) (seen after) first text second other report answer
+      by (inl fault) = subst (DeliveryEnds (seen before) (seen after) first text second other report) (sym fault.0) part
+      by (inr memory) = subst (DeliveryEnds (seen before) (seen after) first text second other report) (sym memory) part
 
+-- nothing was said before the two files were written
+pub silence_then_delivery : (before between after : Seen) (first : Name) (text : Bytes) (second : Name) (other report : Bytes) (answer : Status) → Says before between [] → DeliveryEnds between after first text second other report answer → DeliveryEnds before after first text second other report answer
+silence_then_delivery before between after first text second other report answer silent = by answer
+  where
+    spoke : OnlySpoke between after → OnlySpoke before after
+    spoke more = (more.0, changes_then_says silent more.1)
+
+    part : MayHoldPart between after first text → MayHoldPart before after first text
+    part (inl more) = inl (spoke more)
+    part (inr (count, more, changes)) = inr (count, more, silence_then_changes silent changes)
+
+    parts : MayHoldParts between after first text second other → MayHoldParts before after first text second other
+    parts (inl one) = inl (part one)
+    parts (inr (count, more, changes)) = inr (count, more, silence_then_changes silent changes)
+
+    by : (answer : Status) → DeliveryEnds between after first text second other report answer → DeliveryEnds before after first text second other report answer
+    by status.Ok ends = silence_then_changes silent ends
+    by status.WriteFault ends = parts ends
+    by status.OutOfMemory ends = parts ends
+    by _ ends = absurd ends
+
+module _ {D : Type 0} (counts : D → Counts) (steady : D → Type 0) (seen : D → Seen) where
   -- a report that was said, where the status and both ways to stop are ends of a run
   pub reported : (P : Status → Type 0) (before : Seen) (between after : D) (report : Bytes) (state answer : Status) → Says before (seen between) [] → (Says before (seen after) report → P state) → (OnlySpoke before (seen after) → P status.WriteFault) → (OnlySpoke before (seen after) → P status.OutOfMemory) → Concludes counts steady seen between after report state answer → P answer
   reported P before between after report state answer silent stands fault memory (inl all) = subst P (sym all.stands) (stands (changes_then_says silent all.says))
@@ -66,6 +105,11 @@ module _ {D : Type 0} (counts : D → Counts) (steady : D → Type 0) (seen : D 
       by : ((answer ≡ status.WriteFault) × WritingFailed counts steady between after) ⊎ (answer ≡ status.OutOfMemory) → P answer
       by (inl failed) = subst P (sym failed.0) (fault spoke)
       by (inr none) = subst P (sym none) (memory spoke)
+
+-- a board that was not read was not had
+pub unread-board : (before after : Seen) (name : Name) (answer : Status) → UnreadEnds before after 1 name answer → BoardInputEnds before after name answer
+unread-board before after name status.BoardRefused ends = absurd ends
+unread-board before after name _ ends = ends
 
 -- a fact that holds however a call ends
 pub on-ok : {A E : Type 0} (r : Result A E) (P : Type 0) → P → OnOk r P

@@ -1,5 +1,5 @@
 -- What reading an input shows of the files.
-use Rattle.std.proofs.Common.{◌≡◌, ℕ, ◌+◌, ◌≤◌, [], Bool, true, false, refl, sym, ap, ◌∙◌, take, length, arith}
+use Rattle.std.proofs.Common.{◌≡◌, ℕ, [], Bool, true, false, refl, sym, ap, ◌∙◌, take}
 use Rattle.std.specs.Prelude.{Option, Some, None, is_some, option_map, unwrap_or, IsTrue, if◌then◌else◌}
 use Rattle.std.specs.Option.{ForSome}
 use Rattle.std.specs.FinMap.{get, contains_key}
@@ -7,16 +7,12 @@ use Rattle.tdm_desk.specs.declared.slots.InSlot.{InSlot}
 use Rattle.tdm_desk.specs.Files.{Bytes, Name, Files, bytes_under}
 use Rattle.tdm_desk.specs.Seen.{Seen, opened, files_of, rest_of, input_is_open}
 use Rattle.tdm_desk.proofs.SeenLaws.{rest-opened, input_is_open-opened}
-use Rattle.std.specs.Prelude.{nat_lt, Result, Ok, Err}
-use Rattle.std.proofs.lemmas.List.{take_all, length-take}
-use Rattle.std.proofs.lemmas.Bool.{ltb-true, ltb-false, lt-ltb}
-use Rattle.tdm_lines.specs.Lines.{lines, line_after}
-use Rattle.tdm_problem.specs.Board.{Board}
-use Rattle.contest_input.specs.declared.TheConstants.{MAX_BOARD_BYTES, MAX_BOARD_NUMBER}
-use Rattle.contest_input.specs.declared.fault.BoardRefusal.{BoardRefusal}
-use Rattle.contest_input.specs.declared.kind.BoardKind.TheVariants.{TooLong}
-use Rattle.contest_input.specs.BoardText.{board_of, board_of_lines}
-use Rattle.tdm_cli.specs.Input.{IsAbsent, IsBoardFile, IsRefusedFile, HasFront}
+use Rattle.tdm_cli.specs.Change.{Says}
+use Rattle.tdm_cli.specs.declared.reading.Unread.{Unread}
+use Rattle.tdm_cli.specs.declared.reading.Unread.TheVariants.{NoFile, Failed, NoMemory}
+use Rattle.tdm_cli.specs.declared.reading.InputFault.{InputFault}
+use Rattle.tdm_cli.specs.declared.reading.InputFault.TheVariants.{NotRead, Refused}
+use Rattle.tdm_cli.specs.Input.{IsAbsent, FileIs, HasFront, UnreadShows, FaultShows}
 
 -- a test that is known to be true
 pub test-true : (b : Bool) → b ≡ true → IsTrue b
@@ -62,33 +58,33 @@ front-of-file slot name count bytes before between is found is_there shown read 
       read (bytes_under name files) (ap (rest_of slot) is ∙ rest-opened slot name before ∙ ap (option_map (bytes_under name)) told),
     )
 
--- ---- a text that is cut behind its limit
+-- ---- what the first bytes of a file say
 
-cut-short : (text : Bytes) → nat_lt MAX_BOARD_BYTES (length text) ≡ false → take (MAX_BOARD_BYTES + 1) text ≡ text
-cut-short text h = take_all (MAX_BOARD_BYTES + 1) text (let most : length text ≤ MAX_BOARD_BYTES = ltb-false MAX_BOARD_BYTES (length text) h in omega arith)
-
-cut-long : (text : Bytes) → nat_lt MAX_BOARD_BYTES (length text) ≡ true → nat_lt MAX_BOARD_BYTES (length (take (MAX_BOARD_BYTES + 1) text)) ≡ true
-cut-long text h = lt-ltb MAX_BOARD_BYTES _ (omega (arith, length-take (MAX_BOARD_BYTES + 1) text, ltb-true MAX_BOARD_BYTES (length text) h))
-
-too_long : Bytes → Bool → Result Board BoardRefusal
-too_long text b = if b then Err (record { kind = TooLong; line = 0 }) else board_of_lines (line_after text) (lines MAX_BOARD_NUMBER text)
-
--- one byte past the limit says as much as the whole text
-pub board_of-cut : (text : Bytes) → board_of (take (MAX_BOARD_BYTES + 1) text) ≡ board_of text
-unfolding too_long
-board_of-cut text = by (nat_lt MAX_BOARD_BYTES (length text)) refl
-  where
-    by : (b : Bool) → nat_lt MAX_BOARD_BYTES (length text) ≡ b → board_of (take (MAX_BOARD_BYTES + 1) text) ≡ board_of text
-    by false h = ap board_of (cut-short text h)
-    by true h = ap (too_long (take (MAX_BOARD_BYTES + 1) text)) (cut-long text h) ∙ sym (ap (too_long text) h)
-
--- a board that was read from the first bytes is that of the file
-pub board-file : (name : Name) (before : Seen) (front : Bytes) (board : Board) → HasFront before name (MAX_BOARD_BYTES + 1) front → board_of front ≡ Ok board → IsBoardFile before name board
-board-file name before front board has is = λ files told.
+-- what is said of the first bytes is said of the whole file, where a text that is cut says the same
+pub file-says : {A : Type 0} (said_by : Bytes → A) (count : ℕ) (name : Name) (before : Seen) (front : Bytes) (said : A) → ((text : Bytes) → said_by (take count text) ≡ said_by text) → HasFront before name count front → said_by front ≡ said → FileIs before name (λ bytes. said_by bytes ≡ said)
+file-says said_by count name before front said cut has is = λ files told.
     let file = has files told in
-    (file.0, file.1, sym (board_of-cut file.0) ∙ ap board_of (sym file.2) ∙ is)
+    (file.0, file.1, sym (cut file.0) ∙ ap said_by (sym file.2) ∙ is)
 
-pub refused-file : (name : Name) (before : Seen) (front : Bytes) (refusal : BoardRefusal) → HasFront before name (MAX_BOARD_BYTES + 1) front → board_of front ≡ Err refusal → IsRefusedFile before name refusal
-refused-file name before front refusal has is = λ files told.
-    let file = has files told in
-    (file.0, file.1, sym (board_of-cut file.0) ∙ ap board_of (sym file.2) ∙ is)
+-- ---- files that did not change
+
+same-files : {P : Files → Type 0} (before between : Seen) → Says before between [] → ForSome (files_of between) P → ForSome (files_of before) P
+same-files before between silent later = λ files told. later files (silent.files ∙ ap (option_map (λ f. f)) told)
+
+-- what a file was before nothing changed
+pub absent-before : (name : Name) (before between : Seen) → Says before between [] → IsAbsent between name → IsAbsent before name
+absent-before name before between silent absent = same-files {P = λ files. get files name ≡ None} before between silent absent
+
+pub file-before : (name : Name) (Holds : Bytes → Type 0) (before between : Seen) → Says before between [] → FileIs between name Holds → FileIs before name Holds
+file-before name Holds before between silent is = same-files {P = λ files. (bytes : Bytes) × (get files name ≡ Some bytes) × Holds bytes} before between silent is
+
+-- what it shows that an input was not read
+pub unread-before : (name : Name) (unread : Unread) (before between : Seen) → Says before between [] → UnreadShows between name unread → UnreadShows before name unread
+unread-before name NoFile before between silent shows = absent-before name before between silent shows
+unread-before name Failed before between silent shows = tt
+unread-before name NoMemory before between silent shows = tt
+
+-- what a fault of an input shows, where a refusal shows this of the bytes
+pub fault-before : {R : Type 0} (Refuses : R → Bytes → Type 0) (name : Name) (fault : InputFault R) (before between : Seen) → Says before between [] → FaultShows (λ refusal. FileIs between name (Refuses refusal)) between name fault → FaultShows (λ refusal. FileIs before name (Refuses refusal)) before name fault
+fault-before Refuses name (NotRead unread) before between silent shows = unread-before name unread before between silent shows
+fault-before Refuses name (Refused refusal) before between silent shows = file-before name (Refuses refusal) before between silent shows

@@ -1,6 +1,16 @@
 pub mod ChangeLaws
 pub mod InputLaws
+mod ReadOutLaws
 pub mod EndsLaws
+mod SettledLaws
 pub mod ProgressLaws
 pub mod BaselineLaws
 pub mod PromiseLaws
+pub mod WordLaws
+pub mod KeptLaws
+pub mod BoardFirstLaws
+pub mod SecondInputLaws
+pub mod EvalEndsLaws
+pub mod EvalPromiseLaws
+pub mod CheckEndsLaws
+pub mod CheckPromiseLaws

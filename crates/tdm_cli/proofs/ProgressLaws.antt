@@ -9,10 +9,9 @@ use Rattle.std.proofs.Math.Seq.{get_or-append_seam}
 use Rattle.std.proofs.lemmas.Bool.{ltb-true, ltb-false}
 use Rattle.tdm_problem.specs.Board.{Board}
 use Rattle.tdm_problem.specs.Walk.{IsConnectable}
-use Rattle.tdm_problem.specs.Legal.{terminals_of}
+use Rattle.tdm_problem.specs.Legal.{terminals_of, source_of}
 use Rattle.tdm_problem.specs.Trees.{tree_of}
 use Rattle.shortest_forest.specs.Baseline.{IsBaseTree}
-use Rattle.tdm_cli.specs.Baseline.{source_of}
 use Rattle.tdm_cli.specs.declared.baseline.TheConstants.{MAX_USES}
 use Rattle.tdm_problem.specs.declared.limits.TheConstants.{MAX_NETS}
 use Rattle.tdm_cli.specs.Progress.{AreBasedSoFar, IsProgress}

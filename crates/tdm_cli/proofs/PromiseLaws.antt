@@ -1,8 +1,8 @@
 -- What the end of a run says of the files when it began.
-use Rattle.std.proofs.Common.{◌≡◌, ◌⊎◌, ℕ, ◌<◌, List, [], ◌∷◌, length, refl, sym, ap, subst, ◌∙◌, inl, inr, arith, Contains}
+use Rattle.std.proofs.Common.{◌≡◌, ◌⊎◌, ℕ, ◌<◌, ◌≤◌, List, [], ◌∷◌, length, refl, sym, ap, subst, ◌∙◌, inl, inr, arith, Contains}
 use Rattle.std.specs.Prelude.{Some, None, Result, Ok, Err, option_map}
 use Rattle.std.specs.FinMap.{get}
-use Rattle.tdm_desk.specs.Files.{Bytes, Name, Files, with_file}
+use Rattle.tdm_desk.specs.Files.{Bytes, Name, Files}
 use Rattle.tdm_desk.specs.Seen.{Seen, files_of}
 use Rattle.tdm_problem.specs.Board.{Board}
 use Rattle.tdm_problem.specs.Trees.{trees_of}
@@ -10,13 +10,27 @@ use Rattle.contest_input.specs.declared.fault.BoardRefusal.{BoardRefusal}
 use Rattle.contest_input.specs.BoardText.{board_of}
 use Rattle.tdm_problem.specs.Value.{value_of}
 use Rattle.solution_text.specs.Text.{solution_text}
-use Rattle.tdm_cli.specs.Reports.{value_report}
+use Rattle.solution_text.proofs.ReadsBack.{text_reads_back}
+use Rattle.solution_text.proofs.Size.{never_too_long}
+use Rattle.bound_cert.specs.Certificate.{Cert}
+use Rattle.bound_cert.specs.CertText.{cert_text}
+use Rattle.bound_cert.specs.Bound.{bound_of}
+use Rattle.bound_cert.specs.Floors.{IsHopFloor, IsShareFloor}
+use Rattle.bound_cert.proofs.CertReadsBack.{text_reads_back as cert_text_reads_back}
+use Rattle.bound_cert.proofs.CertSize.{never_too_long as cert_never_too_long}
+use Rattle.tdm_cli.specs.Reports.{route_report}
+use Rattle.tdm_cli.specs.TwoFiles.{with_two_files}
+use Rattle.tdm_cli.specs.Certified.{IsProof, IsBestCert}
+use Rattle.tdm_cli.specs.Settled.{IsReadOut, IsFinished}
+use Rattle.tdm_desk.specs.declared.slots.InSlot.TheVariants.{In0}
+use Rattle.tdm_desk.specs.declared.slots.OutSlot.TheVariants.{Out0, Out1}
 use Rattle.tdm_cli.specs.declared.status.Status.{Status}
 use Rattle.tdm_cli.specs.declared.status.Status.TheVariants as status
-use Rattle.tdm_cli.specs.Ends.{InputEnds, ObstacleEnds, DeliveryEnds, NetsEnds, RouteEnds}
-use Rattle.tdm_cli.specs.Promises.{Describes, CallsFor, IsOutsideFault, IsRouted}
+use Rattle.tdm_cli.specs.Ends.{BoardInputEnds, ObstacleEnds, DeliveryEnds, NetsEnds, RouteEnds}
+use Rattle.tdm_cli.specs.Promises.{Describes, BoardCallsFor, CallsFor, IsOutsideFault, IsRouted}
 use Rattle.tdm_cli.specs.Input.{IsBoardFile}
-use Rattle.tdm_cli.specs.Baseline.{IsOverUseLimit, AllConnectable}
+use Rattle.tdm_problem.specs.Legal.{AllConnectable}
+use Rattle.tdm_cli.specs.Baseline.{IsOverUseLimit}
 use Rattle.tdm_cli.proofs.BaselineLaws.{total-unique, sum-lengths-same}
 
 -- ---- the cause of each answer
@@ -25,19 +39,26 @@ first-of : (xs : List ℕ) → 0 < length xs → (x : ℕ) × Contains xs x
 first-of [] h = absurd (omega arith)
 first-of (x ∷ xs) h = (x, (0, omega arith, refl))
 
-module _ (before after : Seen) (name solution : Name) (files : Files) (told : files_of before ≡ Some files) where
-  input-cause : (answer : Status) → InputEnds before after name answer → IsOutsideFault answer ⊎ CallsFor files name answer
-  input-cause status.NoInput ends = inr (ends.0 files told)
-  input-cause status.ReadFault ends = inl tt
-  input-cause status.BoardRefused ends = let file = ends.1 files told in inr (file.0, ends.0, file.1, file.2)
-  input-cause status.WriteFault ends = inl tt
-  input-cause status.OutOfMemory ends = inl tt
-  input-cause _ ends = absurd ends
+module _ (before after : Seen) (name : Name) (files : Files) (told : files_of before ≡ Some files) where
+  pub board-cause : (answer : Status) → BoardInputEnds before after name answer → IsOutsideFault answer ⊎ BoardCallsFor files name answer
+  board-cause status.NoInput ends = inr (ends.0 files told)
+  board-cause status.ReadFault ends = inl tt
+  board-cause status.BoardRefused ends = let file = ends.1 files told in inr (file.0, ends.0, file.1, file.2)
+  board-cause status.WriteFault ends = inl tt
+  board-cause status.OutOfMemory ends = inl tt
+  board-cause _ ends = absurd ends
 
+-- a refused board calls for the same of each command
+pub board-calls : (files : Files) (name : Name) (answer : Status) → BoardCallsFor files name answer → CallsFor files name answer
+board-calls files name status.NoInput calls = calls
+board-calls files name status.BoardRefused calls = calls
+board-calls files name _ calls = absurd calls
+
+module _ (before after : Seen) (name solution cert : Name) (files : Files) (told : files_of before ≡ Some files) where
   described : (board : Board) → IsBoardFile before name board → Describes files name board
   described board is = is files told
 
-  nets-cause : (board : Board) → IsBoardFile before name board → (answer : Status) → NetsEnds before after board solution answer → IsOutsideFault answer ⊎ CallsFor files name answer
+  nets-cause : (board : Board) → IsBoardFile before name board → (answer : Status) → NetsEnds before after board solution cert answer → IsOutsideFault answer ⊎ CallsFor files name answer
   nets-cause board is answer (inl obstacle) = by answer obstacle
     where
       by : (answer : Status) → ObstacleEnds before after board answer → IsOutsideFault answer ⊎ CallsFor files name answer
@@ -49,37 +70,41 @@ module _ (before after : Seen) (name solution : Name) (files : Files) (told : fi
       by status.WriteFault ends = inl tt
       by status.OutOfMemory ends = inl tt
       by _ ends = absurd ends
-  nets-cause board is answer (inr (routing, baseline, delivery)) = by answer delivery
+  nets-cause board is answer (inr (routing, proof, baseline, best, delivery)) = by answer delivery
     where
-      by : (answer : Status) → DeliveryEnds before after solution (solution_text routing) (value_report (value_of board routing)) answer → IsOutsideFault answer ⊎ CallsFor files name answer
+      by : (answer : Status) → DeliveryEnds before after solution (solution_text routing) cert (cert_text proof) (route_report (value_of board routing) (bound_of board proof)) answer → IsOutsideFault answer ⊎ CallsFor files name answer
       by status.Ok ends = inr (board, described board is, baseline.joined, λ trees base. omega (arith, total-unique board trees (trees_of routing) base baseline.base, sum-lengths-same routing, baseline.few))
       by status.WriteFault ends = inl tt
       by status.OutOfMemory ends = inl tt
       by _ ends = absurd ends
 
-  pub route-cause : (answer : Status) → RouteEnds before after name solution answer → IsOutsideFault answer ⊎ CallsFor files name answer
-  route-cause answer (inl ends) = input-cause answer ends
+  pub route-cause : (answer : Status) → RouteEnds before after name solution cert answer → IsOutsideFault answer ⊎ CallsFor files name answer
+  route-cause answer (inl ends) = by (board-cause before after name files told answer ends)
+    where
+      by : IsOutsideFault answer ⊎ BoardCallsFor files name answer → IsOutsideFault answer ⊎ CallsFor files name answer
+      by (inl fault) = inl fault
+      by (inr calls) = inr (board-calls files name answer calls)
   route-cause answer (inr (board, is, ends)) = nets-cause board is answer ends
 
 -- ---- the files call for one status
 
 module _ (files : Files) (name : Name) where
-  none-some : (bytes : Bytes) → get files name ≡ None → get files name ≡ Some bytes → ⊥
+  pub none-some : (bytes : Bytes) → get files name ≡ None → get files name ≡ Some bytes → ⊥
   none-some bytes a b = cc
 
-  one-text : (a b : Bytes) → get files name ≡ Some a → get files name ≡ Some b → a ≡ b
+  pub one-text : (a b : Bytes) → get files name ≡ Some a → get files name ≡ Some b → a ≡ b
   one-text a b p q = cc
 
-  apart-texts : (a b : Bytes) (board : Board) (refusal : BoardRefusal) → get files name ≡ Some a → board_of a ≡ Ok board → get files name ≡ Some b → board_of b ≡ Err refusal → ⊥
+  pub apart-texts : (a b : Bytes) (board : Board) (refusal : BoardRefusal) → get files name ≡ Some a → board_of a ≡ Ok board → get files name ≡ Some b → board_of b ≡ Err refusal → ⊥
   apart-texts a b board refusal p d q r = let same = one-text a b p q in let e : board_of a ≡ board_of b = ap board_of same in cc
 
   ok-same : (x y : Board) → ◌≡◌ {A = Result Board BoardRefusal} (Ok x) (Ok y) → x ≡ y
   ok-same x y e = cc
 
-  one-board : (a b : Board) → Describes files name a → Describes files name b → a ≡ b
+  pub one-board : (a b : Board) → Describes files name a → Describes files name b → a ≡ b
   one-board a b d e = ok-same a b (sym d.2 ∙ ap board_of (one-text d.0 e.0 d.1 e.1) ∙ e.2)
 
-  one-status : (s t : Status) → CallsFor files name s → CallsFor files name t → s ≡ t
+  pub one-status : (s t : Status) → CallsFor files name s → CallsFor files name t → s ≡ t
   one-status status.NoInput status.NoInput h k = refl
   one-status status.NoInput status.BoardRefused h k = absurd (none-some k.0 h k.2)
   one-status status.NoInput status.Unconnectable h k = absurd (none-some k.1.0 h k.1.1)
@@ -113,8 +138,8 @@ module _ (files : Files) (name : Name) where
   one-status _ t h k = absurd h
 
 -- the answer is the status that the files call for, or shows a fault of the outside
-pub route-exact : (before after : Seen) (name solution : Name) (files : Files) → files_of before ≡ Some files → (answer : Status) → RouteEnds before after name solution answer → (called : Status) → CallsFor files name called → (answer ≡ called) ⊎ IsOutsideFault answer
-route-exact before after name solution files told answer ends called calls = by (route-cause before after name solution files told answer ends)
+pub route-exact : (before after : Seen) (name solution cert : Name) (files : Files) → files_of before ≡ Some files → (answer : Status) → RouteEnds before after name solution cert answer → (called : Status) → CallsFor files name called → (answer ≡ called) ⊎ IsOutsideFault answer
+route-exact before after name solution cert files told answer ends called calls = by (route-cause before after name solution cert files told answer ends)
   where
     by : IsOutsideFault answer ⊎ CallsFor files name answer → (answer ≡ called) ⊎ IsOutsideFault answer
     by (inl fault) = inr fault
@@ -122,18 +147,54 @@ route-exact before after name solution files told answer ends called calls = by 
 
 -- ---- what Ok and completeness say
 
-pub route-written : (before after : Seen) (name solution : Name) (files : Files) → files_of before ≡ Some files → RouteEnds before after name solution status.Ok → IsRouted files name solution before after
-route-written before after name solution files told (inl ends) = absurd ends
-route-written before after name solution files told (inr (board, is, inl obstacle)) = absurd obstacle
-route-written before after name solution files told (inr (board, is, inr (routing, baseline, changes))) = record {
+-- the better of two proofs is one
+pub best-proof : (board : Board) (cert : Cert) → IsBestCert board cert → IsProof board cert
+best-proof board cert best = by best.better
+  where
+    by : ((cert ≡ best.hop) × (bound_of board best.share ≤ bound_of board best.hop)) ⊎ ((cert ≡ best.share) × (bound_of board best.hop < bound_of board best.share)) → IsProof board cert
+    by (inl hop) = subst (IsProof board) (sym hop.0) best.is_hop.proof
+    by (inr share) = subst (IsProof board) (sym share.0) best.is_share.proof
+
+-- its bound is at least both floors
+pub hop-floor : (board : Board) (cert : Cert) → IsBestCert board cert → (floor : ℕ) → IsHopFloor board floor → floor ≤ bound_of board cert
+hop-floor board cert best floor is = by best.better
+  where
+    by : ((cert ≡ best.hop) × (bound_of board best.share ≤ bound_of board best.hop)) ⊎ ((cert ≡ best.share) × (bound_of board best.hop < bound_of board best.share)) → floor ≤ bound_of board cert
+    by (inl hop) = omega (arith, best.is_hop.only_floor floor is, ap (bound_of board) hop.0)
+    by (inr share) = omega (arith, best.is_hop.only_floor floor is, ap (bound_of board) share.0, share.1)
+
+pub share-floor : (board : Board) (cert : Cert) → IsBestCert board cert → (floor : ℕ) → IsShareFloor board floor → floor ≤ bound_of board cert
+share-floor board cert best floor is = by best.better
+  where
+    by : ((cert ≡ best.hop) × (bound_of board best.share ≤ bound_of board best.hop)) ⊎ ((cert ≡ best.share) × (bound_of board best.hop < bound_of board best.share)) → floor ≤ bound_of board cert
+    by (inl hop) = omega (arith, best.is_share.only_floor floor is, ap (bound_of board) hop.0, hop.1)
+    by (inr share) = omega (arith, best.is_share.only_floor floor is, ap (bound_of board) share.0)
+
+pub route-written : (before after : Seen) (name solution cert : Name) (files : Files) → files_of before ≡ Some files → RouteEnds before after name solution cert status.Ok → IsReadOut In0 after → IsFinished Out0 after × IsFinished Out1 after → IsRouted files name solution cert before after
+route-written before after name solution cert files told (inl ends) read finished = absurd ends
+route-written before after name solution cert files told (inr (board, is, inl obstacle)) read finished = absurd obstacle
+route-written before after name solution cert files told (inr (board, is, inr (routing, proof, baseline, best, changes))) read finished = record {
   board = board;
   described = is files told;
   routing = routing;
   legal = baseline.legal;
   minimal = baseline.minimal;
   baseline = baseline;
-  written = changes.files ∙ ap (option_map (with_file solution (solution_text routing))) told;
-  valued = changes.said;
+  proof = proof;
+  best = best;
+  valid = (best-proof board proof best).valid;
+  lower = (best-proof board proof best).lower;
+  hop_floor = hop-floor board proof best;
+  share_floor = share-floor board proof best;
+  written = changes.files ∙ ap (option_map (with_two_files solution (solution_text routing) cert (cert_text proof))) told;
+  reads_back = text_reads_back board routing baseline.sayable (never_too_long board routing baseline.sayable baseline.few);
+  cert_reads_back =
+      let is = best-proof board proof best in
+      let short = cert_never_too_long board proof baseline.sayable.limits is.within is.for_board is.few in
+      cert_text_reads_back board proof is.within is.for_board short;
+  told = changes.said;
+  read_out = read;
+  finished = finished;
 }
 
 -- a fault of the outside that is neither of reading nor of writing is want of memory

@@ -1,27 +1,18 @@
 -- What `route` makes of a board: the baseline, or why there is none.
-use Rattle.std.specs.Prelude.{◌≡◌, ℕ, ◌<◌, ◌≤◌, ◌↔◌, List, length, slice_index, sum_by, Contains}
+use Rattle.std.specs.Prelude.{◌≡◌, ℕ, ◌<◌, ◌^◌, ◌≤◌, ◌↔◌, List, length, sum_by, Contains}
 use Rattle.std.specs.List.Sorted.{IsStrictlyIncreasing}
 use Rattle.tdm_problem.specs.Board.{Board}
 use Rattle.tdm_problem.specs.Routing.{Routing, uses_of, wires_of}
-use Rattle.tdm_problem.specs.Trees.{tree_of, trees_of}
+use Rattle.tdm_problem.specs.Trees.{trees_of}
 use Rattle.tdm_problem.specs.Walk.{IsConnectable, IsMinimalTree}
-use Rattle.tdm_problem.specs.Legal.{IsLegal, terminals_of}
+use Rattle.tdm_problem.specs.Legal.{IsLegal, terminals_of, AllConnectable}
 use Rattle.even_legalise.specs.Uniform.{uniform_routing}
-use Rattle.shortest_forest.specs.Baseline.{IsBaseTree}
-use Rattle.tdm_cli.specs.declared.baseline.TheConstants.{MAX_USES}
+use Rattle.solution_text.specs.Sayable.{IsSayable}
+use Rattle.shortest_forest.specs.Baseline.{AreBaseTrees}
 
--- the FPGAs of each net are joined by the wires of the board
-abbrev pub AllConnectable : Board → Type 0
-AllConnectable board = (n : ℕ) → n < length board.nets → IsConnectable board (terminals_of board n)
-
--- the source of net n: the first of its FPGAs
-abbrev pub source_of : Board → ℕ → ℕ
-source_of board n = slice_index (terminals_of board n) 0
-
--- each net of the board has its baseline tree
-pub record AreBaseTrees (board : Board) (trees : List (List ℕ)) : Type 0 where
-  pub nets : length trees ≡ length board.nets
-  pub each : (n : ℕ) → n < length board.nets → IsBaseTree board (source_of board n) (terminals_of board n) (tree_of trees n)
+-- the most uses of wires that a solution may have, counted net by net
+abbrev pub most_uses : ℕ
+most_uses = 2 ^ 25
 
 -- the solution is legal and joins each net by a minimal tree: the baseline tree, with uniform ratios
 pub record IsBaseline (board : Board) (routing : Routing) : Type 0 where
@@ -30,7 +21,8 @@ pub record IsBaseline (board : Board) (routing : Routing) : Type 0 where
   pub minimal : (n : ℕ) → n < length board.nets → IsMinimalTree board (wires_of (uses_of routing n)) (terminals_of board n)
   pub base : AreBaseTrees board (trees_of routing)
   pub uniform : routing ≡ uniform_routing board (trees_of routing)
-  pub few : sum_by length routing ≤ MAX_USES
+  pub few : sum_by length routing ≤ most_uses
+  pub sayable : IsSayable board routing
 
 -- all nets whose FPGAs no wires join, rising
 pub record AreUnconnectable (board : Board) (nets : List ℕ) : Type 0 where
@@ -42,4 +34,4 @@ pub record IsOverUseLimit (board : Board) : Type 0 where
   pub joined : AllConnectable board
   pub trees : List (List ℕ)
   pub base : AreBaseTrees board trees
-  pub over : MAX_USES < sum_by length trees
+  pub over : most_uses < sum_by length trees

@@ -8,11 +8,16 @@ use Rattle.tdm_problem.specs.Value.{value_of}
 use Rattle.contest_input.specs.declared.fault.BoardRefusal.{BoardRefusal}
 use Rattle.contest_input.specs.Kinds.{name_of}
 use Rattle.solution_text.specs.Text.{solution_text}
+use Rattle.bound_cert.specs.Certificate.{Cert}
+use Rattle.bound_cert.specs.CertText.{cert_text}
+use Rattle.bound_cert.specs.Bound.{bound_of}
 use Rattle.tdm_cli.specs.declared.status.Status.{Status}
 use Rattle.tdm_cli.specs.declared.status.Status.TheVariants as status
 use Rattle.tdm_cli.specs.Change.{Changes, Says}
 use Rattle.tdm_cli.specs.Input.{IsAbsent, IsBoardFile, IsRefusedFile}
-use Rattle.tdm_cli.specs.Reports.{usage_report, value_report, read_fault_report, no_input_report, board_refused_report, unconnectable_report, use_limit_report}
+use Rattle.tdm_cli.specs.Reports.{usage_report, route_report, read_fault_report, no_input_report, board_refused_report, unconnectable_report, use_limit_report}
+use Rattle.tdm_cli.specs.TwoFiles.{with_two_files}
+use Rattle.tdm_cli.specs.Certified.{IsBestCert}
 use Rattle.tdm_cli.specs.Baseline.{IsBaseline, AreUnconnectable, IsOverUseLimit}
 
 module _ (before after : Seen) where
@@ -27,25 +32,34 @@ module _ (before after : Seen) where
   UsageEnds status.OutOfMemory = OnlySpoke
   UsageEnds _ = ⊥
 
-  -- no board was had from the file of this name
-  abbrev pub InputEnds : Name → Status → Type 0
-  InputEnds board status.NoInput = IsAbsent before board × Says before after (no_input_report 1)
-  InputEnds board status.ReadFault = Says before after (read_fault_report 1)
-  InputEnds board status.BoardRefused = (refusal : BoardRefusal) × IsRefusedFile before board refusal × Says before after (board_refused_report (name_of refusal.kind) refusal.line)
-  InputEnds board status.WriteFault = OnlySpoke
-  InputEnds board status.OutOfMemory = OnlySpoke
-  InputEnds board _ = ⊥
+  -- the input at this place of the command, from 1, was not read from the file of this name
+  abbrev pub UnreadEnds : ℕ → Name → Status → Type 0
+  UnreadEnds place name status.NoInput = IsAbsent before name × Says before after (no_input_report place)
+  UnreadEnds place name status.ReadFault = Says before after (read_fault_report place)
+  UnreadEnds place name status.WriteFault = OnlySpoke
+  UnreadEnds place name status.OutOfMemory = OnlySpoke
+  UnreadEnds place name _ = ⊥
+
+  -- no board was had from the file of this name, the first input
+  abbrev pub BoardInputEnds : Name → Status → Type 0
+  BoardInputEnds board status.BoardRefused = (refusal : BoardRefusal) × IsRefusedFile before board refusal × Says before after (board_refused_report (name_of refusal.kind) refusal.line)
+  BoardInputEnds board answer = UnreadEnds 1 board answer
 
   -- the file of this name is as it was, or holds a first part of the text; no other file changed
   abbrev pub MayHoldPart : Name → Bytes → Type 0
   MayHoldPart name text = OnlySpoke ⊎ ((count : ℕ) × (more : Bytes) × Changes before after (with_file name (take count text)) more)
 
-  -- the text was written to the file of this name and the report said, or not wholly
-  abbrev pub DeliveryEnds : Name → Bytes → Bytes → Status → Type 0
-  DeliveryEnds name text report status.Ok = Changes before after (with_file name text) report
-  DeliveryEnds name text report status.WriteFault = MayHoldPart name text
-  DeliveryEnds name text report status.OutOfMemory = MayHoldPart name text
-  DeliveryEnds name text report _ = ⊥
+  -- the first file is as it was or holds a first part of its text, or it holds the whole and the second holds a first
+  -- part of its own; no other file changed
+  abbrev pub MayHoldParts : Name → Bytes → Name → Bytes → Type 0
+  MayHoldParts first text second other = MayHoldPart first text ⊎ ((count : ℕ) × (more : Bytes) × Changes before after (with_two_files first text second (take count other)) more)
+
+  -- the two texts were written to the files of these names and the report said, or not wholly
+  abbrev pub DeliveryEnds : Name → Bytes → Name → Bytes → Bytes → Status → Type 0
+  DeliveryEnds first text second other report status.Ok = Changes before after (with_two_files first text second other) report
+  DeliveryEnds first text second other report status.WriteFault = MayHoldParts first text second other
+  DeliveryEnds first text second other report status.OutOfMemory = MayHoldParts first text second other
+  DeliveryEnds first text second other report _ = ⊥
 
   -- the nets of this board have no baseline that may be written
   abbrev pub ObstacleEnds : Board → Status → Type 0
@@ -55,10 +69,10 @@ module _ (before after : Seen) where
   ObstacleEnds board status.OutOfMemory = OnlySpoke
   ObstacleEnds board _ = ⊥
 
-  -- the nets of this board were routed and the solution written, or there was an obstacle
-  abbrev pub NetsEnds : Board → Name → Status → Type 0
-  NetsEnds board solution answer = ObstacleEnds board answer ⊎ ((routing : Routing) × IsBaseline board routing × DeliveryEnds solution (solution_text routing) (value_report (value_of board routing)) answer)
+  -- the nets of this board were routed and the solution and a certificate written, or there was an obstacle
+  abbrev pub NetsEnds : Board → Name → Name → Status → Type 0
+  NetsEnds board solution cert answer = ObstacleEnds board answer ⊎ ((routing : Routing) × (proof : Cert) × IsBaseline board routing × IsBestCert board proof × DeliveryEnds solution (solution_text routing) cert (cert_text proof) (route_report (value_of board routing) (bound_of board proof)) answer)
 
   -- the board was not had, or it was and its nets came to this end
-  abbrev pub RouteEnds : Name → Name → Status → Type 0
-  RouteEnds board solution answer = InputEnds board answer ⊎ ((problem : Board) × IsBoardFile before board problem × NetsEnds problem solution answer)
+  abbrev pub RouteEnds : Name → Name → Name → Status → Type 0
+  RouteEnds board solution cert answer = BoardInputEnds board answer ⊎ ((problem : Board) × IsBoardFile before board problem × NetsEnds problem solution cert answer)

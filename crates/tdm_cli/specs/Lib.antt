@@ -3,9 +3,17 @@ pub mod Words
 pub mod Reports
 pub mod Change
 pub mod Saying
+pub mod Settled
+pub mod TwoFiles
+pub mod Certified
 pub mod Input
 pub mod Baseline
 pub mod Progress
 pub mod Obstacle
 pub mod Ends
 pub mod Promises
+pub mod BoardFirst
+pub mod EvalEnds
+pub mod CheckEnds
+pub mod EvalPromises
+pub mod CheckPromises

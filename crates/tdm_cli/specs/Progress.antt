@@ -4,12 +4,11 @@ use Rattle.std.specs.List.Sorted.{IsStrictlyIncreasing}
 use Rattle.tdm_problem.specs.Board.{Board}
 use Rattle.tdm_problem.specs.declared.limits.TheConstants.{MAX_NETS}
 use Rattle.tdm_problem.specs.Walk.{IsConnectable}
-use Rattle.tdm_problem.specs.Legal.{terminals_of}
+use Rattle.tdm_problem.specs.Legal.{terminals_of, source_of}
 use Rattle.tdm_problem.specs.Trees.{tree_of}
 use Rattle.board_graph.specs.Graph.{Graph}
 use Rattle.shortest_forest.specs.Reach.{Reach, IsHopForest}
 use Rattle.shortest_forest.specs.Baseline.{IsBaseTree}
-use Rattle.tdm_cli.specs.Baseline.{source_of}
 use Rattle.tdm_cli.specs.declared.baseline.TheConstants.{MAX_USES}
 
 -- the first nets have baseline trees; up to the limit their uses are counted and the trees are kept

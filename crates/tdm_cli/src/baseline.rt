@@ -3,13 +3,13 @@ ghost use Rattle.std.specs.Prelude.{◌≡◌, ◌<◌, ◌≤◌, ◌+◌, ℕ,
 ghost use Rattle.std.specs.List.Sorted.{IsStrictlyIncreasing};
 ghost use Rattle.tdm_problem.specs.Board.{Board, IsBoard};
 ghost use Rattle.tdm_problem.specs.Walk.{IsConnectable};
-ghost use Rattle.tdm_problem.specs.Legal.{terminals_of};
+ghost use Rattle.tdm_problem.specs.Legal.{terminals_of, AllConnectable, source_of};
 ghost use Rattle.tdm_problem.specs.declared.limits.TheConstants.{MAX_NETS};
 ghost use Rattle.board_graph.specs.Graph.{graph_of};
-ghost use Rattle.shortest_forest.specs.Baseline.{IsBaseTree};
+ghost use Rattle.shortest_forest.specs.Baseline.{IsBaseTree, AreBaseTrees};
 ghost use Rattle.shortest_forest.specs.Reach.{IsHopForest};
 ghost use Rattle.tdm_cli.specs.declared.baseline.TheConstants.{MAX_USES};
-ghost use Rattle.tdm_cli.specs.Baseline.{IsBaseline, AllConnectable, source_of, AreBaseTrees};
+ghost use Rattle.tdm_cli.specs.Baseline.{IsBaseline};
 ghost use Rattle.tdm_cli.specs.Obstacle.{ObstacleShows};
 ghost use Rattle.tdm_cli.specs.Progress.{IsProgress, HasForests};
 
@@ -156,15 +156,15 @@ impl Progress {
 }
 
 /// The baseline tree of each net, or why the nets have no solution that may be written.
-fn baseline_trees(alloc: Global, problem: &Problem) -> Result<Trees, Obstacle>
+fn baseline_trees(alloc: Global, problem: &Problem, graph: &BoardGraph) -> Result<Trees, Obstacle>
+    requires { graph.now ≡ graph_of problem.now }
     ensures base { IfOk result (AreBaseTrees problem.now) }
     ensures few { IfOk result (λ trees. sum_by length trees ≤ MAX_USES) }
     ensures joined { OnOk result (AllConnectable problem.now) }
     ensures board { OnOk result (IsBoard problem.now) }
     ensures obstacle { IfErr result (ObstacleShows problem.now) }
 {
-    let graph = BoardGraph::of(alloc, problem)?;
-    let forests = forests(alloc, problem, &graph)?;
+    let forests = forests(alloc, problem, graph)?;
     let mut progress = Progress {
         trees: Trees::new(alloc),
         used: 0,
@@ -172,7 +172,7 @@ fn baseline_trees(alloc: Global, problem: &Problem) -> Result<Trees, Obstacle>
     };
     for n in 0..problem.nets() {
         let forest = forest_at(&forests, source(problem, n));
-        progress.take_in(alloc, problem, &graph, forest, n)?;
+        progress.take_in(alloc, problem, graph, forest, n)?;
     }
     if !progress.missing.is_empty() {
         return Err(Obstacle::Unconnectable(progress.missing));
@@ -183,13 +183,15 @@ fn baseline_trees(alloc: Global, problem: &Problem) -> Result<Trees, Obstacle>
     Ok(progress.trees)
 }
 
-/// The baseline solution of a problem: the baseline tree of each net, with uniform ratios. Unconnectable exactly where
-/// no wires join some net, UseLimit where all are joined and the trees have more than [`MAX_USES`] wires together.
-pub fn baseline(alloc: Global, problem: &Problem) -> Result<Solution, Obstacle>
+/// The baseline solution of a problem, whose board's graph this is: the baseline tree of each net, with uniform ratios.
+/// Unconnectable exactly where no wires join some net, UseLimit where all are joined and the trees have more than
+/// [`MAX_USES`] wires together.
+pub fn baseline(alloc: Global, problem: &Problem, graph: &BoardGraph) -> Result<Solution, Obstacle>
+    requires { graph.now ≡ graph_of problem.now }
     ensures ok { IfOk result (IsBaseline problem.now) }
     ensures obstacle { IfErr result (ObstacleShows problem.now) }
 {
-    let trees = baseline_trees(alloc, problem)?;
+    let trees = baseline_trees(alloc, problem, graph)?;
     match uniform_solution(alloc, problem, &trees) {
         Ok(solution) => Ok(solution),
         Err(AllocError) => Err(Obstacle::NoMemory),

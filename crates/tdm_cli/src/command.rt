@@ -1,11 +1,25 @@
-ghost use Rattle.std.specs.Prelude.{◌≡◌, map, IfSome, IfNone, string_bytes};
-ghost use Rattle.tdm_cli.specs.Words.{IsRoute, IsCommand, RequestIs};
+ghost use Rattle.std.specs.Prelude.{◌≡◌, [], ◌∷◌, map, IfSome, IfNone, string_bytes};
+ghost use Rattle.tdm_cli.specs.Words.{IsCommand, RequestIs};
 
 /// What the words of a command line ask for. A name is a file's, and not empty.
 #[derive(Clone, Copy, Debug)]
 pub enum Command<'a> {
-    /// Route the board of one file, and write the solution to the other.
-    Route { board: &'a str, solution: &'a str },
+    /// Route the board of one file, and write the solution and the certificate to two others.
+    Route {
+        board: &'a str,
+        solution: &'a str,
+        cert: &'a str,
+    },
+    /// Judge the solution of one file for the board of the other.
+    Eval {
+        board: &'a str,
+        solution: &'a str,
+    },
+    /// Check the certificate of one file for the board of the other.
+    Check {
+        board: &'a str,
+        cert: &'a str,
+    },
 }
 
 /// The command that the words are, without the program's own name, and none where they are no command.
@@ -13,12 +27,60 @@ pub fn parse(words: &[String]) -> Option<Command<'_>>
     ensures found { IfSome result (RequestIs (map string_bytes words.now)) }
     ensures none { IfNone result (¬ IsCommand (map string_bytes words.now)) }
 {
-    let [verb, board, solution] = words else {
-        return None;
-    };
-    let (board, solution) = (board.as_str(), solution.as_str());
-    if verb.as_str() == "route" && !board.is_empty() && !solution.is_empty() {
-        return Some(Command::Route { board, solution });
+    match words {
+        [verb, board, solution, cert] => {
+            parse_route(
+                verb.as_str(),
+                board.as_str(),
+                solution.as_str(),
+                cert.as_str(),
+            )
+        }
+        [verb, first, second] => parse_two(verb.as_str(), first.as_str(), second.as_str()),
+        _ => None,
     }
-    None
+}
+
+/// The command `route`, if the verb is that and the names are those of an input and of two outputs.
+fn parse_route<'a>(
+    verb: &str,
+    board: &'a str,
+    solution: &'a str,
+    cert: &'a str,
+) -> Option<Command<'a>>
+    ensures found { IfSome result (RequestIs (verb.now ∷ board.now ∷ solution.now ∷ cert.now ∷ [])) }
+    ensures none { IfNone result (¬ IsCommand (verb.now ∷ board.now ∷ solution.now ∷ cert.now ∷ [])) }
+{
+    if verb != "route" || board.is_empty() || solution.is_empty() || cert.is_empty() {
+        return None;
+    }
+    if solution == cert {
+        return None;
+    }
+    Some(Command::Route {
+        board,
+        solution,
+        cert,
+    })
+}
+
+/// The command with two names that has this verb, if there is one and the names are a file's.
+fn parse_two<'a>(verb: &str, first: &'a str, second: &'a str) -> Option<Command<'a>>
+    ensures found { IfSome result (RequestIs (verb.now ∷ first.now ∷ second.now ∷ [])) }
+    ensures none { IfNone result (¬ IsCommand (verb.now ∷ first.now ∷ second.now ∷ [])) }
+{
+    if first.is_empty() || second.is_empty() {
+        return None;
+    }
+    match verb {
+        "eval" => Some(Command::Eval {
+            board: first,
+            solution: second,
+        }),
+        "check" => Some(Command::Check {
+            board: first,
+            cert: second,
+        }),
+        _ => None,
+    }
 }

@@ -1,8 +1,15 @@
-//! The command `tdm`: routes the nets of a board of many FPGAs and gives each net a ratio on each wire it uses.
+//! The command `tdm`: routes the nets of a board of many FPGAs and gives each net a ratio on each wire it uses, judges
+//! such solutions, and checks certificates of what no such solution can be worth less than.
 #![tactic(auto)]
 
+mod answer_report;
 mod baseline;
+mod certify;
+mod check;
 mod command;
+#[cfg(test)]
+mod definitions;
+mod eval;
 mod reading;
 mod refusing;
 mod report;
@@ -12,6 +19,7 @@ mod status;
 mod tdm;
 #[cfg(test)]
 mod tests;
+mod verdict_report;
 mod writing;
 
 use crate::status::Status;

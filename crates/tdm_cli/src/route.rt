@@ -1,72 +1,110 @@
 //! The command `route`.
-ghost use Rattle.std.specs.Prelude.{◌≡◌, [], length};
+ghost use Rattle.std.specs.Prelude.{◌≡◌, [], IfOk, IfErr};
 ghost use Rattle.tdm_desk.specs.Seen.{Seen};
 ghost use Rattle.tdm_desk.specs.Counts.{CountsFaults, ReadingFailed, WritingFailed};
 ghost use Rattle.tdm_desk.specs.declared.slots.InSlot.TheVariants.{In0};
+ghost use Rattle.tdm_desk.specs.declared.slots.OutSlot.TheVariants.{Out0, Out1};
 ghost use Rattle.tdm_problem.specs.Value.{value_of};
-ghost use Rattle.solution_text.specs.Text.{solution_text};
+ghost use Rattle.bound_cert.specs.Bound.{bound_of};
 ghost use Rattle.tdm_cli.specs.Change.{Says};
-ghost use Rattle.tdm_cli.specs.Reports.{value_report};
-ghost use Rattle.tdm_cli.specs.Ends.{DeliveryEnds, NetsEnds, RouteEnds};
-ghost use Rattle.tdm_cli.specs.declared.status.Status.TheVariants.{ReadFault, WriteFault};
+ghost use Rattle.tdm_cli.specs.Reports.{route_report};
+ghost use Rattle.tdm_cli.specs.Settled.{IsReadOut, KeepsInputs, IsFinished};
+ghost use Rattle.tdm_cli.specs.Baseline.{IsBaseline};
+ghost use Rattle.tdm_cli.specs.Certified.{IsBestCert};
+ghost use Rattle.tdm_cli.specs.Obstacle.{ObstacleShows};
+ghost use Rattle.tdm_cli.specs.Ends.{NetsEnds, RouteEnds};
+ghost use Rattle.tdm_cli.specs.declared.status.Status.TheVariants.{Ok, ReadFault, WriteFault};
 
-use crate::baseline::baseline;
+use crate::baseline::{Obstacle, baseline};
+use crate::certify::best_certificate;
 use crate::reading::read_problem;
-use crate::refusing::{refuse_input, refuse_nets};
+use crate::refusing::{refuse_board, refuse_nets};
 use crate::report;
 use crate::status::Status;
 use crate::writing::deliver;
+use board_graph::BoardGraph;
+use bound_cert::Certificate;
 use solution_eval::value;
 use std::alloc::Global;
-use tdm_desk::{Desk, InSlot, OutSlot};
+use tdm_desk::{Desk, InSlot};
 use tdm_problem::{Problem, Solution};
 
-/// Values a solution of the problem, writes it to the file of this name, and reports its value.
-fn deliver_valued<D: Desk>(
+/// What is written and said of a problem.
+#[derive(Drop)]
+struct Plan {
+    solution: Solution,
+    cert: Certificate,
+    report: Vec<u8>,
+}
+
+/// Routes the nets of a problem and certifies its board, or says why the nets have no solution that may be written.
+fn prepare(alloc: Global, problem: &Problem) -> Result<Plan, Obstacle>
+    ensures solution { IfOk result (λ plan. IsBaseline problem.now plan.solution) }
+    ensures cert { IfOk result (λ plan. IsBestCert problem.now plan.cert) }
+    ensures report { IfOk result (λ plan. plan.report.items
+        ≡ route_report (value_of problem.now plan.solution) (bound_of problem.now plan.cert)) }
+    ensures obstacle { IfErr result (ObstacleShows problem.now) }
+{
+    let graph = BoardGraph::of(alloc, problem)?;
+    let solution = baseline(alloc, problem, &graph)?;
+    let certified = best_certificate(alloc, problem, &graph)?;
+    let worth = value(alloc, problem, &solution)?;
+    let report = report::routed(alloc, worth, certified.bound)?;
+    Ok(Plan {
+        solution,
+        cert: certified.cert,
+        report,
+    })
+}
+
+/// Routes the nets of a problem, writes the solution and the certificate to the files of these names, and reports the
+/// value and the bound.
+fn route_nets<D: Desk>(
     alloc: Global,
     desk: &mut D,
     problem: &Problem,
-    name: &str,
-    solution: &Solution,
+    solution: &str,
+    cert: &str,
 ) -> Status
-    requires { length solution.now ≡ length problem.now.nets }
-    ensures ends { (before : Seen) → Says before (D.seen desk.old) [] → DeliveryEnds before (D.seen desk.new) name.now
-        (solution_text solution.now) (value_report (value_of problem.now solution.now)) result }
-    ensures write_fault { result ≡ WriteFault → WritingFailed D.counts D.steady desk.old desk.new }
-    ensures counted { CountsFaults D.counts D.steady desk.old desk.new }
-{
-    let Ok(worth) = value(alloc, problem, solution) else {
-        return Status::OutOfMemory;
-    };
-    let Ok(report) = report::value(alloc, worth) else {
-        return Status::OutOfMemory;
-    };
-    deliver(desk, OutSlot::Out0, name, solution, report.as_slice())
-}
-
-/// Routes the nets of a problem, writes the solution to the file of this name, and reports its value.
-fn route_nets<D: Desk>(alloc: Global, desk: &mut D, problem: &Problem, solution: &str) -> Status
     ensures ends { (before : Seen) → Says before (D.seen desk.old) []
-        → NetsEnds before (D.seen desk.new) problem.now solution.now result }
+        → NetsEnds before (D.seen desk.new) problem.now solution.now cert.now result }
+    ensures inputs { result ≡ Ok → KeepsInputs (D.seen desk.old) (D.seen desk.new) }
+    ensures finished { result ≡ Ok → IsFinished Out0 (D.seen desk.new) × IsFinished Out1 (D.seen desk.new) }
     ensures write_fault { result ≡ WriteFault → WritingFailed D.counts D.steady desk.old desk.new }
     ensures counted { CountsFaults D.counts D.steady desk.old desk.new }
 {
-    match baseline(alloc, problem) {
-        Ok(routed) => deliver_valued(alloc, desk, problem, solution, &routed),
+    match prepare(alloc, problem) {
+        Ok(plan) => deliver(
+            desk,
+            solution,
+            &plan.solution,
+            cert,
+            &plan.cert,
+            plan.report.as_slice(),
+        ),
         Err(obstacle) => refuse_nets(alloc, desk, &obstacle),
     }
 }
 
-/// Reads the board, routes its nets, writes the solution, and says what it is worth or why there is none.
-pub fn route<D: Desk>(alloc: Global, desk: &mut D, board: &str, solution: &str) -> Status
-    ensures ends { RouteEnds (D.seen desk.old) (D.seen desk.new) board.now solution.now result }
+/// Reads the board, routes its nets, writes the solution and a certificate, and says what they are worth, or why there
+/// are none.
+pub fn route<D: Desk>(
+    alloc: Global,
+    desk: &mut D,
+    board: &str,
+    solution: &str,
+    cert: &str,
+) -> Status
+    ensures read { result ≡ Ok → IsReadOut In0 (D.seen desk.new) }
+    ensures finished { result ≡ Ok → IsFinished Out0 (D.seen desk.new) × IsFinished Out1 (D.seen desk.new) }
+    ensures ends { RouteEnds (D.seen desk.old) (D.seen desk.new) board.now solution.now cert.now result }
     ensures read_fault { result ≡ ReadFault →
         ReadingFailed D.counts D.steady In0 desk.old desk.new }
     ensures write_fault { result ≡ WriteFault → WritingFailed D.counts D.steady desk.old desk.new }
     ensures counted { CountsFaults D.counts D.steady desk.old desk.new }
 {
     match read_problem(alloc, desk, InSlot::In0, board) {
-        Ok(problem) => route_nets(alloc, desk, &problem, solution),
-        Err(fault) => refuse_input(alloc, desk, &fault),
+        Ok(problem) => route_nets(alloc, desk, &problem, solution, cert),
+        Err(fault) => refuse_board(alloc, desk, &fault),
     }
 }

@@ -1,15 +1,27 @@
 //! The top call.
-ghost use Rattle.std.specs.Prelude.{◌≡◌, ◌≢◌, ◌⊎◌, map, string_bytes, Some};
+ghost use Rattle.std.specs.Prelude.{◌≡◌, ◌≢◌, ◌⊎◌, ℕ, map, string_bytes, Some};
 ghost use Rattle.tdm_desk.specs.Files.{Files, Name};
 ghost use Rattle.tdm_desk.specs.Seen.{files_of};
 ghost use Rattle.tdm_desk.specs.Counts.{CountsFaults, ReadingFailed, WritingFailed};
-ghost use Rattle.tdm_desk.specs.declared.slots.InSlot.TheVariants.{In0};
-ghost use Rattle.tdm_cli.specs.Words.{IsRoute, IsCommand};
+ghost use Rattle.tdm_desk.specs.declared.slots.InSlot.TheVariants.{In0, In1};
+ghost use Rattle.solution_eval.specs.declared.judgement.Verdict.{Verdict};
+ghost use Rattle.solution_eval.specs.declared.judgement.Verdict.TheVariants.{Legal};
+ghost use Rattle.solution_eval.specs.Verdict.{SaysLegal};
+ghost use Rattle.tdm_cli.specs.Words.{IsRoute, IsEval, IsCheck, IsCommand};
+ghost use Rattle.tdm_cli.specs.Saying.{ReportsReadFault};
+ghost use Rattle.tdm_cli.specs.Settled.{IsReadOut, IsFinished};
+ghost use Rattle.tdm_desk.specs.declared.slots.OutSlot.TheVariants.{Out0, Out1};
 ghost use Rattle.tdm_cli.specs.Ends.{UsageEnds, RouteEnds};
+ghost use Rattle.tdm_cli.specs.EvalEnds.{EvalEnds};
+ghost use Rattle.tdm_cli.specs.CheckEnds.{CheckEnds};
 ghost use Rattle.tdm_cli.specs.Promises.{CallsFor, IsOutsideFault, IsRouted};
-ghost use Rattle.tdm_cli.specs.declared.status.Status.TheVariants.{Ok, Usage, ReadFault, WriteFault, OutOfMemory};
+ghost use Rattle.tdm_cli.specs.EvalPromises.{EvalCallsFor, IsJudged};
+ghost use Rattle.tdm_cli.specs.CheckPromises.{CheckCallsFor, IsBounded, IsRejected, BoundsHold};
+ghost use Rattle.tdm_cli.specs.declared.status.Status.TheVariants.{Ok, Usage, ReadFault, WriteFault, OutOfMemory, Illegal, CertRejected};
 
+use crate::check::check;
 use crate::command::{Command, parse};
+use crate::eval::eval;
 use crate::report;
 use crate::route::route;
 use crate::saying::conclude;
@@ -21,16 +33,36 @@ use tdm_desk::Desk;
 fn run_words<D: Desk>(alloc: Global, desk: &mut D, words: &[String]) -> Status
     ensures no_command { ¬ IsCommand (map string_bytes words.now)
         → UsageEnds (D.seen desk.old) (D.seen desk.new) result }
-    ensures route { (board solution : Name) → IsRoute (map string_bytes words.now) board solution
-        → RouteEnds (D.seen desk.old) (D.seen desk.new) board solution result }
+    ensures route { (board solution cert : Name) → IsRoute (map string_bytes words.now) board solution cert
+        → RouteEnds (D.seen desk.old) (D.seen desk.new) board solution cert result }
+    ensures eval { (board solution : Name) → IsEval (map string_bytes words.now) board solution
+        → EvalEnds (D.seen desk.old) (D.seen desk.new) board solution result }
+    ensures settled { (board solution cert : Name) → IsRoute (map string_bytes words.now) board solution cert
+        → result ≡ Ok → IsReadOut In0 (D.seen desk.new) × IsFinished Out0 (D.seen desk.new) × IsFinished Out1 (D.seen desk.new) }
+    ensures check { (board cert : Name) → IsCheck (map string_bytes words.now) board cert
+        → CheckEnds (D.seen desk.old) (D.seen desk.new) board cert result }
+    ensures eval_read { (board solution : Name) → IsEval (map string_bytes words.now) board solution
+        → result ≡ Ok → IsReadOut In0 (D.seen desk.new) × IsReadOut In1 (D.seen desk.new) }
+    ensures check_read { (board cert : Name) → IsCheck (map string_bytes words.now) board cert
+        → result ≡ Ok → IsReadOut In0 (D.seen desk.new) × IsReadOut In1 (D.seen desk.new) }
     ensures usage { result ≡ Usage → ¬ IsCommand (map string_bytes words.now) }
     ensures read_fault { result ≡ ReadFault →
-        ReadingFailed D.counts D.steady In0 desk.old desk.new }
+        ReportsReadFault D.counts D.steady D.seen desk.old desk.new }
+    ensures route_read_fault { (board solution cert : Name) → IsRoute (map string_bytes words.now) board solution cert
+        → result ≡ ReadFault → ReadingFailed D.counts D.steady In0 desk.old desk.new }
     ensures write_fault { result ≡ WriteFault → WritingFailed D.counts D.steady desk.old desk.new }
     ensures counted { CountsFaults D.counts D.steady desk.old desk.new }
 {
     match parse(words) {
-        Some(Command::Route { board, solution }) => route(alloc, desk, board, solution),
+        Some(
+            Command::Route {
+                board,
+                solution,
+                cert,
+            },
+        ) => route(alloc, desk, board, solution, cert),
+        Some(Command::Eval { board, solution }) => eval(alloc, desk, board, solution),
+        Some(Command::Check { board, cert }) => check(alloc, desk, board, cert),
         None => conclude(desk, report::USAGE, Status::Usage),
     }
 }
@@ -41,33 +73,91 @@ pub fn tdm<D: Desk>(alloc: Global, desk: &mut D, words: &[String]) -> Status
     // How each status comes, and what the files and the report are then.
     ensures no_command { ¬ IsCommand (map string_bytes words.now)
         → UsageEnds (D.seen desk.old) (D.seen desk.new) result }
-    ensures route { (board solution : Name) → IsRoute (map string_bytes words.now) board solution
-        → RouteEnds (D.seen desk.old) (D.seen desk.new) board solution result }
+    ensures route { (board solution cert : Name) → IsRoute (map string_bytes words.now) board solution cert
+        → RouteEnds (D.seen desk.old) (D.seen desk.new) board solution cert result }
+    ensures eval { (board solution : Name) → IsEval (map string_bytes words.now) board solution
+        → EvalEnds (D.seen desk.old) (D.seen desk.new) board solution result }
+    ensures check { (board cert : Name) → IsCheck (map string_bytes words.now) board cert
+        → CheckEnds (D.seen desk.old) (D.seen desk.new) board cert result }
     ensures usage { result ≡ Usage → ¬ IsCommand (map string_bytes words.now) }
 
-    // Faults of the outside are shown by the desk's own counts; over a steady desk there are none.
+    // Faults of the outside are shown by the desk's own counts; over a steady desk there are none. A read fault is
+    // reported of the input whose count rose; `route` has one input alone.
     ensures read_fault { result ≡ ReadFault →
-        ReadingFailed D.counts D.steady In0 desk.old desk.new }
+        ReportsReadFault D.counts D.steady D.seen desk.old desk.new }
+    ensures route_read_fault { (board solution cert : Name) → IsRoute (map string_bytes words.now) board solution cert
+        → result ≡ ReadFault → ReadingFailed D.counts D.steady In0 desk.old desk.new }
     ensures write_fault { result ≡ WriteFault → WritingFailed D.counts D.steady desk.old desk.new }
     ensures counted { CountsFaults D.counts D.steady desk.old desk.new }
     ensures steady { D.steady desk.old → (result ≢ ReadFault) × (result ≢ WriteFault) }
 
     // Where the desk tells its files, they call for one status, which is the answer, unless a fault of the outside or
     // want of memory comes in.
-    ensures exact { (board solution : Name) (files : Files) → IsRoute (map string_bytes words.now) board solution
+    ensures exact { (board solution cert : Name) (files : Files) → IsRoute (map string_bytes words.now) board solution cert
         → files_of (D.seen desk.old) ≡ Some files → (called : Status) → CallsFor files board called
         → (result ≡ called) ⊎ IsOutsideFault result }
-    ensures cause { (board solution : Name) (files : Files) → IsRoute (map string_bytes words.now) board solution
+    ensures cause { (board solution cert : Name) (files : Files) → IsRoute (map string_bytes words.now) board solution cert
         → files_of (D.seen desk.old) ≡ Some files → IsOutsideFault result ⊎ CallsFor files board result }
 
     // An accepted board with connectable nets and a baseline within the limit is routed, unless memory is wanting.
-    ensures complete { (board solution : Name) (files : Files) → IsRoute (map string_bytes words.now) board solution
+    ensures complete { (board solution cert : Name) (files : Files) → IsRoute (map string_bytes words.now) board solution cert
         → files_of (D.seen desk.old) ≡ Some files → CallsFor files board Ok
         → (ReadingFailed D.counts D.steady In0 desk.old desk.new → ⊥)
         → (WritingFailed D.counts D.steady desk.old desk.new → ⊥) → (result ≡ Ok) ⊎ (result ≡ OutOfMemory) }
-    ensures written { (board solution : Name) (files : Files) → IsRoute (map string_bytes words.now) board solution
+    ensures written { (board solution cert : Name) (files : Files) → IsRoute (map string_bytes words.now) board solution cert
         → files_of (D.seen desk.old) ≡ Some files → result ≡ Ok
-        → IsRouted files board solution (D.seen desk.old) (D.seen desk.new) }
+        → IsRouted files board solution cert (D.seen desk.old) (D.seen desk.new) }
+    ensures settled { (board solution cert : Name) → IsRoute (map string_bytes words.now) board solution cert
+        → result ≡ Ok → IsReadOut In0 (D.seen desk.new) × IsFinished Out0 (D.seen desk.new) × IsFinished Out1 (D.seen desk.new) }
+
+    // The same of `eval`, which changes no file: Ok just where the solution is legal, and then its value is said, and
+    // Illegal just where it is not, and then its first violation is said.
+    ensures eval_exact { (board solution : Name) (files : Files) → IsEval (map string_bytes words.now) board solution
+        → files_of (D.seen desk.old) ≡ Some files → (called : Status) → EvalCallsFor files board solution called
+        → (result ≡ called) ⊎ IsOutsideFault result }
+    ensures eval_cause { (board solution : Name) (files : Files) → IsEval (map string_bytes words.now) board solution
+        → files_of (D.seen desk.old) ≡ Some files → IsOutsideFault result ⊎ EvalCallsFor files board solution result }
+    ensures eval_complete { (board solution : Name) (files : Files) → IsEval (map string_bytes words.now) board solution
+        → files_of (D.seen desk.old) ≡ Some files → EvalCallsFor files board solution Ok
+        → (ReadingFailed D.counts D.steady In0 desk.old desk.new → ⊥)
+        → (ReadingFailed D.counts D.steady In1 desk.old desk.new → ⊥)
+        → (WritingFailed D.counts D.steady desk.old desk.new → ⊥) → (result ≡ Ok) ⊎ (result ≡ OutOfMemory) }
+    ensures valued { (board solution : Name) (files : Files) → IsEval (map string_bytes words.now) board solution
+        → files_of (D.seen desk.old) ≡ Some files → result ≡ Ok
+        → (value : ℕ) × IsJudged files board solution (D.seen desk.old) (D.seen desk.new) (Legal value) }
+    ensures violation { (board solution : Name) (files : Files) → IsEval (map string_bytes words.now) board solution
+        → files_of (D.seen desk.old) ≡ Some files → result ≡ Illegal
+        → (verdict : Verdict) × (SaysLegal verdict → ⊥) × IsJudged files board solution (D.seen desk.old) (D.seen desk.new) verdict }
+    ensures eval_read { (board solution : Name) → IsEval (map string_bytes words.now) board solution
+        → result ≡ Ok → IsReadOut In0 (D.seen desk.new) × IsReadOut In1 (D.seen desk.new) }
+    ensures eval_kept { (board solution : Name) → IsEval (map string_bytes words.now) board solution
+        → files_of (D.seen desk.new) ≡ files_of (D.seen desk.old) }
+
+    // The same of `check`, which changes no file: Ok just where the certificate is valid, and then its bound is said,
+    // and CertRejected just where it is not, and then its first steep pair is said.
+    ensures check_exact { (board cert : Name) (files : Files) → IsCheck (map string_bytes words.now) board cert
+        → files_of (D.seen desk.old) ≡ Some files → (called : Status) → CheckCallsFor files board cert called
+        → (result ≡ called) ⊎ IsOutsideFault result }
+    ensures check_cause { (board cert : Name) (files : Files) → IsCheck (map string_bytes words.now) board cert
+        → files_of (D.seen desk.old) ≡ Some files → IsOutsideFault result ⊎ CheckCallsFor files board cert result }
+    ensures check_complete { (board cert : Name) (files : Files) → IsCheck (map string_bytes words.now) board cert
+        → files_of (D.seen desk.old) ≡ Some files → CheckCallsFor files board cert Ok
+        → (ReadingFailed D.counts D.steady In0 desk.old desk.new → ⊥)
+        → (ReadingFailed D.counts D.steady In1 desk.old desk.new → ⊥)
+        → (WritingFailed D.counts D.steady desk.old desk.new → ⊥) → (result ≡ Ok) ⊎ (result ≡ OutOfMemory) }
+    ensures bounded { (board cert : Name) (files : Files) → IsCheck (map string_bytes words.now) board cert
+        → files_of (D.seen desk.old) ≡ Some files → result ≡ Ok
+        → IsBounded files board cert (D.seen desk.old) (D.seen desk.new) }
+    ensures steep { (board cert : Name) (files : Files) → IsCheck (map string_bytes words.now) board cert
+        → files_of (D.seen desk.old) ≡ Some files → result ≡ CertRejected
+        → IsRejected files board cert (D.seen desk.old) (D.seen desk.new) }
+    ensures check_read { (board cert : Name) → IsCheck (map string_bytes words.now) board cert
+        → result ≡ Ok → IsReadOut In0 (D.seen desk.new) × IsReadOut In1 (D.seen desk.new) }
+    ensures check_kept { (board cert : Name) → IsCheck (map string_bytes words.now) board cert
+        → files_of (D.seen desk.new) ≡ files_of (D.seen desk.old) }
+
+    // Whatever is run: no legal solution has a value below the bound of any certificate that is accepted for its board.
+    ensures bounds_hold { BoundsHold }
 {
     run_words(alloc, desk, words)
 }

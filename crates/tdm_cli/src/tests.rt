@@ -3,7 +3,8 @@ use std::alloc::{AllocError, Global};
 use std::test::Fail;
 use tdm_desk::MemoryDesk;
 
-/// Whether routing the board `b` ends so, says this, and at Ok writes this solution, else no file at all.
+/// Whether routing the board `b` ends so and says this. At Ok it writes this solution and a certificate, of which `eval`
+/// and `check` then say the same value and bound; else it writes no file at all.
 fn ends(
     alloc: Global,
     board: &str,
@@ -13,12 +14,36 @@ fn ends(
 ) -> Result<bool, AllocError> {
     let mut desk = MemoryDesk::new(alloc);
     desk.put_file("b", board.as_bytes())?;
-    let answer = run(alloc, &mut desk, &["route", "b", "s"])?;
-    let written = match desk.file("s") {
-        Some(text) => answer == Status::Ok && text == solution.as_bytes(),
-        None => answer != Status::Ok,
-    };
-    Ok(answer == status && desk.report() == said.as_bytes() && written)
+    let answer = run(alloc, &mut desk, &["route", "b", "s", "c"])?;
+    if answer != status || desk.report() != said.as_bytes() {
+        return Ok(false);
+    }
+    match (desk.file("s"), desk.file("c")) {
+        (Some(text), Some(cert)) => {
+            let agrees = agrees(alloc, board, text, cert, said)?;
+            Ok(answer == Status::Ok && text == solution.as_bytes() && agrees)
+        }
+        (None, None) => Ok(answer != Status::Ok),
+        _ => Ok(false),
+    }
+}
+
+/// Whether `eval` and `check` say this together of a solution and a certificate of the board.
+fn agrees(
+    alloc: Global,
+    board: &str,
+    solution: &[u8],
+    cert: &[u8],
+    said: &str,
+) -> Result<bool, AllocError> {
+    let mut desk = MemoryDesk::new(alloc);
+    desk.put_file("b", board.as_bytes())?;
+    desk.put_file("s", solution)?;
+    desk.put_file("c", cert)?;
+    let judged = run(alloc, &mut desk, &["eval", "b", "s"])?;
+    let checked = run(alloc, &mut desk, &["check", "b", "c"])?;
+    let both = judged == Status::Ok && checked == Status::Ok;
+    Ok(both && desk.report() == said.as_bytes())
 }
 
 /// Runs the words over a desk in memory.
@@ -38,8 +63,17 @@ fn routes_the_worked_boards(rt: HostRuntime) -> Result<(), Fail> {
             alloc,
             "2 1 1 1\n0 1\n0 1\n0\n",
             Status::Ok,
-            "value 2\n",
+            "value 2\nbound 2\n",
             "1\n0 2\n"
+        )?
+    );
+    assert!(rt;
+        ends(
+            alloc,
+            "2 1 2 2\n0 1\n0 1\n0 1\n0\n1\n",
+            Status::Ok,
+            "value 2\nbound 2\n",
+            "1\n0 2\n1\n0 2\n"
         )?
     );
     assert!(rt;
@@ -47,8 +81,26 @@ fn routes_the_worked_boards(rt: HostRuntime) -> Result<(), Fail> {
             alloc,
             "2 1 3 1\n0 1\n0 1\n0 1\n0 1\n0 1 2\n",
             Status::Ok,
-            "value 12\n",
+            "value 12\nbound 10\n",
             "1\n0 4\n1\n0 4\n1\n0 4\n"
+        )?
+    );
+    assert!(rt;
+        ends(
+            alloc,
+            "2 1 3 3\n0 1\n0 1\n0 1\n0 1\n0\n1\n2\n",
+            Status::Ok,
+            "value 4\nbound 4\n",
+            "1\n0 4\n1\n0 4\n1\n0 4\n"
+        )?
+    );
+    assert!(rt;
+        ends(
+            alloc,
+            "2 2 4 4\n0 1\n0 1\n0 1\n0 1\n0 1\n0 1\n0\n1\n2\n3\n",
+            Status::Ok,
+            "value 4\nbound 2\n",
+            "1\n0 4\n1\n0 4\n1\n0 4\n1\n0 4\n"
         )?
     );
     assert!(rt;
@@ -56,17 +108,23 @@ fn routes_the_worked_boards(rt: HostRuntime) -> Result<(), Fail> {
             alloc,
             "4 3 1 1\n0 1\n0 2\n0 3\n1 2 3\n0\n",
             Status::Ok,
-            "value 6\n",
+            "value 6\nbound 4\n",
             "3\n0 2\n1 2\n2 2\n"
         )?
     );
-    assert!(rt; ends(alloc, "0 0 0 0\n", Status::Ok, "value 0\n", "")?);
+    Ok(())
+}
+
+#[test]
+fn routes_boards_at_the_edge_of_their_text(rt: HostRuntime) -> Result<(), Fail> {
+    let alloc = rt.alloc();
+    assert!(rt; ends(alloc, "0 0 0 0\n", Status::Ok, "value 0\nbound 0\n", "")?);
     assert!(rt;
         ends(
             alloc,
             "2 1 1 1\n0 1\n1 1 1\n0\n",
             Status::Ok,
-            "value 0\n",
+            "value 0\nbound 0\n",
             "0\n"
         )?
     );
@@ -75,18 +133,319 @@ fn routes_the_worked_boards(rt: HostRuntime) -> Result<(), Fail> {
             alloc,
             "2 1 1 1\n0 1\n0 1\n0 0\n",
             Status::Ok,
-            "value 2\n",
+            "value 2\nbound 2\n",
             "1\n0 2\n"
         )?
     );
-    let parallel = "2 2 4 4\n0 1\n0 1\n0 1\n0 1\n0 1\n0 1\n0\n1\n2\n3\n";
     assert!(rt;
         ends(
             alloc,
-            parallel,
+            "2 1 5 2\n0 1\n0 1\n0 1\n0 1\n0 1\n0 1\n0 1 2 3\n4\n",
             Status::Ok,
-            "value 4\n",
-            "1\n0 4\n1\n0 4\n1\n0 4\n1\n0 4\n"
+            "value 24\nbound 14\n",
+            "1\n0 6\n1\n0 6\n1\n0 6\n1\n0 6\n1\n0 6\n"
+        )?
+    );
+    assert!(rt;
+        ends(
+            alloc,
+            "2 1 1 1\r\n\r\n0 1\r\n  \r\n0 1\r\n0",
+            Status::Ok,
+            "value 2\nbound 2\n",
+            "1\n0 2\n"
+        )?
+    );
+    assert!(rt;
+        ends(
+            alloc,
+            "002 1 01 1\n0 1\n0 1\n0\n",
+            Status::Ok,
+            "value 2\nbound 2\n",
+            "1\n0 2\n"
+        )?
+    );
+    Ok(())
+}
+
+/// Whether this verb over the board `b` and the second input `s` ends so and says this, with both files as they were.
+fn answers(
+    alloc: Global,
+    verb: &str,
+    board: &str,
+    second: &str,
+    status: Status,
+    said: &str,
+) -> Result<bool, AllocError> {
+    let mut desk = MemoryDesk::new(alloc);
+    desk.put_file("b", board.as_bytes())?;
+    desk.put_file("s", second.as_bytes())?;
+    let answer = run(alloc, &mut desk, &[verb, "b", "s"])?;
+    let kept = desk.file("b") == Some(board.as_bytes())
+        && desk.file("s") == Some(second.as_bytes());
+    Ok(answer == status && desk.report() == said.as_bytes() && kept)
+}
+
+/// Whether judging this solution of the board ends so and says this.
+fn judges(
+    alloc: Global,
+    board: &str,
+    solution: &str,
+    status: Status,
+    said: &str,
+) -> Result<bool, AllocError> {
+    answers(alloc, "eval", board, solution, status, said)
+}
+
+/// Whether checking this certificate for the board ends so and says this.
+fn checks(
+    alloc: Global,
+    board: &str,
+    cert: &str,
+    status: Status,
+    said: &str,
+) -> Result<bool, AllocError> {
+    answers(alloc, "check", board, cert, status, said)
+}
+
+#[test]
+fn judges_the_worked_solutions(rt: HostRuntime) -> Result<(), Fail> {
+    let alloc = rt.alloc();
+    let four = "2 1 4 1\n0 1\n0 1\n0 1\n0 1\n0 1\n0 1 2 3\n";
+    let exactly_one = "1\n0 2\n1\n0 6\n1\n0 6\n1\n0 6\n";
+    assert!(rt; judges(alloc, four, exactly_one, Status::Ok, "value 20\n")?);
+    let three = "2 1 3 1\n0 1\n0 1\n0 1\n0 1\n0 1 2\n";
+    let barely_over = "1\n0 2\n1\n0 2\n1\n0 4294967294\n";
+    assert!(rt;
+        judges(
+            alloc,
+            three,
+            barely_over,
+            Status::Illegal,
+            "illegal wire 0 overfull\n"
+        )?
+    );
+    let one = "2 1 1 1\n0 1\n0 1\n0\n";
+    assert!(rt;
+        judges(
+            alloc,
+            one,
+            "1\n0 3\n",
+            Status::Illegal,
+            "illegal net 0 wire 0 ratio 3\n"
+        )?
+    );
+    assert!(rt;
+        judges(
+            alloc,
+            one,
+            "1\n0 0\n",
+            Status::Illegal,
+            "illegal net 0 wire 0 ratio 0\n"
+        )?
+    );
+    assert!(rt;
+        judges(
+            alloc,
+            one,
+            "2\n0 2\n0 2\n",
+            Status::SolutionRefused,
+            "solution refused RepeatedWire line 3\n"
+        )?
+    );
+    assert!(rt;
+        judges(
+            alloc,
+            one,
+            "0\n",
+            Status::Illegal,
+            "illegal net 0 not joined\n"
+        )?
+    );
+    let parallel = "2 2 1 1\n0 1\n0 1\n0 1\n0\n";
+    assert!(rt; judges(alloc, parallel, "2\n1 2\n0 2\n", Status::Ok, "value 4\n")?);
+    Ok(())
+}
+
+#[test]
+fn judges_only_what_it_reads(rt: HostRuntime) -> Result<(), Fail> {
+    let alloc = rt.alloc();
+    let one = "2 1 1 1\n0 1\n0 1\n0\n";
+    assert!(rt;
+        judges(
+            alloc,
+            one,
+            "1\n",
+            Status::SolutionRefused,
+            "solution refused MissingLine line 2\n"
+        )?
+    );
+    assert!(rt;
+        judges(
+            alloc,
+            "2 1 1",
+            "x",
+            Status::BoardRefused,
+            "board refused WrongCount line 1\n"
+        )?
+    );
+    let mut desk = MemoryDesk::new(alloc);
+    let no_board = run(alloc, &mut desk, &["eval", "b", "s"])?;
+    assert!(rt; no_board == Status::NoInput);
+    assert!(rt; desk.report() == "no input 1\n".as_bytes());
+    desk.put_file("b", one.as_bytes())?;
+    let no_solution = run(alloc, &mut desk, &["eval", "b", "s"])?;
+    assert!(rt; no_solution == Status::NoInput);
+    assert!(rt; desk.report() == "no input 1\nno input 2\n".as_bytes());
+    let nameless = run(alloc, &mut desk, &["eval", "b", ""])?;
+    assert!(rt; nameless == Status::Usage);
+    Ok(())
+}
+
+/// One net on one wire.
+const ONE: &str = "2 1 1 1\n0 1\n0 1\n0\n";
+
+/// Three nets of one group on one wire.
+const THREE: &str = "2 1 3 1\n0 1\n0 1\n0 1\n0 1\n0 1 2\n";
+
+/// One net between three ends of a star.
+const STAR: &str = "4 3 1 1\n0 1\n0 2\n0 3\n1 2 3\n0\n";
+
+/// Whether this certificate text for the board is accepted, and this is said.
+fn accepts_cert(alloc: Global, board: &str, cert: &str, said: &str) -> Result<bool, AllocError> {
+    checks(alloc, board, cert, Status::Ok, said)
+}
+
+#[test]
+fn says_the_bounds_of_worked_certificates(rt: HostRuntime) -> Result<(), Fail> {
+    let alloc = rt.alloc();
+    let units = "1 2 1048576 1\n1099511627776\n0 1048576\n1\n";
+    assert!(rt; accepts_cert(alloc, THREE, "1 1 0 1\n1\n3\n0 3\n1\n1\n1\n", "bound 10\n")?);
+    assert!(rt; accepts_cert(alloc, THREE, "1 1 0 1\n2\n3\n0 3\n1\n1\n1\n", "bound 6\n")?);
+    assert!(rt; accepts_cert(alloc, THREE, "1 1 0 1\n1\n3\n0 3\n0\n0\n0\n", "bound 0\n")?);
+    assert!(rt; accepts_cert(alloc, STAR, "1 2 1 1\n1\n1 0 2 2\n1\n", "bound 4\n")?);
+    assert!(rt; accepts_cert(alloc, ONE, units, "bound 2\n")?);
+    Ok(())
+}
+
+/// Whether this certificate text for the board is rejected, for the first potential and wire.
+fn rejects_cert(alloc: Global, board: &str, cert: &str) -> Result<bool, AllocError> {
+    let said = "steep potential 0 wire 0\n";
+    checks(alloc, board, cert, Status::CertRejected, said)
+}
+
+#[test]
+fn rejects_steep_certificates(rt: HostRuntime) -> Result<(), Fail> {
+    let alloc = rt.alloc();
+    assert!(rt; rejects_cert(alloc, THREE, "1 1 0 1\n1\n3\n0 4\n1\n1\n1\n")?);
+    assert!(rt; rejects_cert(alloc, THREE, "1 1 0 1\n1\n3\n4 0\n1\n1\n1\n")?);
+    assert!(rt; rejects_cert(alloc, ONE, "1 2 1 1\n1\n2 0\n1\n")?);
+    Ok(())
+}
+
+/// Whether this certificate text for one net on one wire is refused, and this is said behind the first words.
+fn refuses_cert(alloc: Global, cert: &str, why: &str) -> Result<bool, AllocError> {
+    let mut said = String::from_str(alloc, "certificate refused ")?;
+    said.push_str(why)?;
+    checks(alloc, ONE, cert, Status::CertRefused, said.as_str())
+}
+
+#[test]
+fn refuses_certificates_by_kind_and_line(rt: HostRuntime) -> Result<(), Fail> {
+    let alloc = rt.alloc();
+    let large = "1 1 0 1\n1\n1\n0 1152921504606846976\n1\n";
+    assert!(rt; refuses_cert(alloc, "1 2 0 0\n", "BadUnit line 1\n")?);
+    assert!(rt; refuses_cert(alloc, "1 3 0 0\n", "BadKind line 1\n")?);
+    assert!(rt; refuses_cert(alloc, "1 1 1 0\n", "BadUnit line 1\n")?);
+    assert!(rt; refuses_cert(alloc, "1 1 0 5000\n", "CountLimit line 1\n")?);
+    assert!(rt; refuses_cert(alloc, "1 1 0 0\n1099511627777\n", "WeightLimit line 2\n")?);
+    assert!(rt;
+        refuses_cert(
+            alloc,
+            "1 1 0 0\n1\n281474976710657\n",
+            "LengthLimit line 3\n"
+        )?
+    );
+    assert!(rt;
+        refuses_cert(
+            alloc,
+            "1 1 0 1\n1\n1\n0 1\n2\n",
+            "UnknownPotential line 5\n"
+        )?
+    );
+    assert!(rt; refuses_cert(alloc, large, "NumberTooLarge line 4\n")?);
+    assert!(rt; refuses_cert(alloc, "2 1 0 0\n", "BadVersion line 1\n")?);
+    assert!(rt; refuses_cert(alloc, "1 x 0 0\n", "BadNumber line 1\n")?);
+    assert!(rt; refuses_cert(alloc, "1 1 0\n", "WrongCount line 1\n")?);
+    assert!(rt; refuses_cert(alloc, "1 1 0 0\n1\n1\n0\n0\n", "ExtraLine line 5\n")?);
+    assert!(rt; refuses_cert(alloc, " \n", "NoHeader line 2\n")?);
+    assert!(rt; refuses_cert(alloc, "1 1 0 0\n", "MissingLine line 2\n")?);
+    Ok(())
+}
+
+#[test]
+fn checks_only_what_it_reads(rt: HostRuntime) -> Result<(), Fail> {
+    let alloc = rt.alloc();
+    let refused = "board refused WrongCount line 1\n";
+    assert!(rt; checks(alloc, "2 1 1", "x", Status::BoardRefused, refused)?);
+    let mut desk = MemoryDesk::new(alloc);
+    let no_board = run(alloc, &mut desk, &["check", "b", "c"])?;
+    assert!(rt; no_board == Status::NoInput);
+    assert!(rt; desk.report() == "no input 1\n".as_bytes());
+    desk.put_file("b", "2 1 1 1\n0 1\n0 1\n0\n".as_bytes())?;
+    let no_cert = run(alloc, &mut desk, &["check", "b", "c"])?;
+    assert!(rt; no_cert == Status::NoInput);
+    assert!(rt; desk.report() == "no input 1\nno input 2\n".as_bytes());
+    let nameless = run(alloc, &mut desk, &["check", "b", ""])?;
+    assert!(rt; nameless == Status::Usage);
+    Ok(())
+}
+
+/// Whether the board `b` is refused so, and no file is written.
+fn refuses_board(alloc: Global, board: &str, said: &str) -> Result<bool, AllocError> {
+    ends(alloc, board, Status::BoardRefused, said, "")
+}
+
+#[test]
+fn refuses_boards_by_kind_and_line(rt: HostRuntime) -> Result<(), Fail> {
+    let alloc = rt.alloc();
+    assert!(rt;
+        refuses_board(
+            alloc,
+            "2 1 1 1\n0 1\n0 1\n",
+            "board refused MissingLine line 4\n"
+        )?
+    );
+    assert!(rt;
+        refuses_board(
+            alloc,
+            "2 1 1 1\n0 1\n0 1\n0\n0\n",
+            "board refused ExtraLine line 5\n"
+        )?
+    );
+    assert!(rt;
+        refuses_board(
+            alloc,
+            "4294967296 0 0 0\n",
+            "board refused NumberTooLarge line 1\n"
+        )?
+    );
+    assert!(rt; refuses_board(alloc, "3 1 0 0\n2 2\n", "board refused SelfLoop line 2\n")?);
+    assert!(rt;
+        refuses_board(
+            alloc,
+            "2 1 0 0\n2 2\n",
+            "board refused UnknownFpga line 2\n"
+        )?
+    );
+    assert!(rt; refuses_board(alloc, "", "board refused NoHeader line 1\n")?);
+    assert!(rt; refuses_board(alloc, "4097 0 0 0\n", "board refused CountLimit line 1\n")?);
+    assert!(rt; refuses_board(alloc, "2 1 1 1\n0 x\n", "board refused BadNumber line 2\n")?);
+    assert!(rt; refuses_board(alloc, "2 1 1\n", "board refused WrongCount line 1\n")?);
+    assert!(rt;
+        refuses_board(
+            alloc,
+            "2 1 1 1\n0 1\n0 1\n1\n",
+            "board refused UnknownNet line 4\n"
         )?
     );
     Ok(())
@@ -96,38 +455,43 @@ fn routes_the_worked_boards(rt: HostRuntime) -> Result<(), Fail> {
 fn refuses_and_says_why(rt: HostRuntime) -> Result<(), Fail> {
     let alloc = rt.alloc();
     let split = "4 2 3 0\n0 1\n2 3\n0 2\n0 1\n3 1\n";
-    assert!(rt;
-        ends(
-            alloc,
-            split,
-            Status::Unconnectable,
-            "unconnectable net 0\nunconnectable net 2\n",
-            ""
-        )?
-    );
-    assert!(rt;
-        ends(
-            alloc,
-            "2 1 1",
-            Status::BoardRefused,
-            "board refused WrongCount line 1\n",
-            ""
-        )?
-    );
-    assert!(rt;
-        ends(
-            alloc,
-            "2 1 1 1\n0 1\n0 1\n",
-            Status::BoardRefused,
-            "board refused MissingLine line 4\n",
-            ""
-        )?
-    );
+    let said = "unconnectable net 0\nunconnectable net 2\n";
+    assert!(rt; ends(alloc, split, Status::Unconnectable, said, "")?);
     let mut desk = MemoryDesk::new(alloc);
-    let missing = run(alloc, &mut desk, &["route", "b", "s"])?;
+    let missing = run(alloc, &mut desk, &["route", "b", "s", "c"])?;
     assert!(rt; missing == Status::NoInput);
     assert!(rt; desk.report() == "no input 1\n".as_bytes());
-    let too_few = run(alloc, &mut desk, &["route", "b"])?;
-    assert!(rt; too_few == Status::Usage);
+    Ok(())
+}
+
+/// Whether these words are no command, and nothing but this is said.
+fn refuses_words(alloc: Global, words: &[&str]) -> Result<bool, AllocError> {
+    let mut desk = MemoryDesk::new(alloc);
+    let answer = run(alloc, &mut desk, words)?;
+    Ok(answer == Status::Usage && desk.report() == "words refused\n".as_bytes())
+}
+
+#[test]
+fn knows_its_words_and_no_others(rt: HostRuntime) -> Result<(), Fail> {
+    let alloc = rt.alloc();
+    assert!(rt; refuses_words(alloc, &["route", "b"])?);
+    assert!(rt; refuses_words(alloc, &["route", "b", "s"])?);
+    assert!(rt; refuses_words(alloc, &["route", "b", "s", "c", "20"])?);
+    assert!(rt; refuses_words(alloc, &["route", "b", "s", "s"])?);
+    assert!(rt; refuses_words(alloc, &["route", "", "s", "c"])?);
+    assert!(rt; refuses_words(alloc, &["Route", "b", "s", "c"])?);
+    assert!(rt; refuses_words(alloc, &["route", "b", "s", "c", "d", "e"])?);
+    Ok(())
+}
+
+#[test]
+fn replaces_a_board_that_was_read(rt: HostRuntime) -> Result<(), Fail> {
+    let alloc = rt.alloc();
+    let mut desk = MemoryDesk::new(alloc);
+    desk.put_file("b", "2 1 1 1\n0 1\n0 1\n0\n".as_bytes())?;
+    let answer = run(alloc, &mut desk, &["route", "b", "b", "c"])?;
+    assert!(rt; answer == Status::Ok);
+    assert!(rt; desk.report() == "value 2\nbound 2\n".as_bytes());
+    assert!(rt; desk.file("b") == Some("1\n0 2\n".as_bytes()));
     Ok(())
 }

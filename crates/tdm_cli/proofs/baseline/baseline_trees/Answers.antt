@@ -1,23 +1,23 @@
 use Rattle.std.proofs.Common.{slice_index_or, arith, sym, subst, ap, ◌∙◌}
 use Rattle.std.specs.Prelude.{None, IsSome}
-use Rattle.tdm_cli.specs.Baseline.{source_of}
+use Rattle.tdm_problem.specs.Legal.{source_of}
 use Rattle.tdm_cli.proofs.BaselineLaws.{forest-there, forest-hops, forest-root, all-missing, all-over, all-base, all-few, all-joined, some-there, none-there}
 use Rattle.tdm_cli.proofs.baseline.baseline_trees.Goals as goal
 
 pub forest_at-forest-requires-clause-made : goal.forest_at-forest-requires-clause-made
 forest_at-forest-requires-clause-made c =
     let has = c.in_ok-forests.ensures.made c.loop-n.n (omega (arith, c.loop-n-test.true, c.nets-n-end.ensures.value)) in
-    subst (λ fs. IsSome (slice_index_or fs c.source.result None)) (sym c.deref.ensures.value) (forest-there c.in_ok-graph.graph c.in_ok-forests.forests.items (source_of c.args.problem.now c.loop-n.n) c.source.result c.source.ensures.source has)
+    subst (λ fs. IsSome (slice_index_or fs c.source.result None)) (sym c.deref.ensures.value) (forest-there c.args.graph.now c.in_ok-forests.forests.items (source_of c.args.problem.now c.loop-n.n) c.source.result c.source.ensures.source has)
 
 pub take_in-requires-clause-hops : goal.take_in-requires-clause-hops
 take_in-requires-clause-hops c =
     let has = c.in_ok-forests.ensures.made c.loop-n.n (omega (arith, c.loop-n-test.true, c.nets-n-end.ensures.value)) in
-    forest-hops c.in_ok-graph.graph c.in_ok-forests.forests.items (source_of c.args.problem.now c.loop-n.n) c.source.result c.forest_at-forest.result.now c.source.ensures.source has (ap (λ fs. slice_index_or fs c.source.result None) (sym c.deref.ensures.value) ∙ c.forest_at-forest.ensures)
+    forest-hops c.args.graph.now c.in_ok-forests.forests.items (source_of c.args.problem.now c.loop-n.n) c.source.result c.forest_at-forest.result.now c.source.ensures.source has (ap (λ fs. slice_index_or fs c.source.result None) (sym c.deref.ensures.value) ∙ c.forest_at-forest.ensures)
 
 pub take_in-requires-clause-root : goal.take_in-requires-clause-root
 take_in-requires-clause-root c =
     let has = c.in_ok-forests.ensures.made c.loop-n.n (omega (arith, c.loop-n-test.true, c.nets-n-end.ensures.value)) in
-    forest-root c.in_ok-graph.graph c.in_ok-forests.forests.items (source_of c.args.problem.now c.loop-n.n) c.source.result c.forest_at-forest.result.now c.source.ensures.source has (ap (λ fs. slice_index_or fs c.source.result None) (sym c.deref.ensures.value) ∙ c.forest_at-forest.ensures)
+    forest-root c.args.graph.now c.in_ok-forests.forests.items (source_of c.args.problem.now c.loop-n.n) c.source.result c.forest_at-forest.result.now c.source.ensures.source has (ap (λ fs. slice_index_or fs c.source.result None) (sym c.deref.ensures.value) ∙ c.forest_at-forest.ensures)
 
 pub returns-then-not-is_empty-clause-obstacle : goal.returns-then-not-is_empty-clause-obstacle
 returns-then-not-is_empty-clause-obstacle c = (

@@ -1,5 +1,5 @@
 use Rattle.std.proofs.Common.{arith}
-use Rattle.tdm_cli.specs.Baseline.{source_of}
+use Rattle.tdm_problem.specs.Legal.{source_of}
 use Rattle.tdm_cli.proofs.BaselineLaws.{source-there}
 use Rattle.tdm_cli.proofs.baseline.forests.Goals as goal
 

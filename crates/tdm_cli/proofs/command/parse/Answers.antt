@@ -1,27 +1,19 @@
-use Rattle.std.proofs.Common.{arith, ◌≡◌, ℕ, ◌<◌, ◌≤◌, length, List, [], ◌∷◌, slice_index_or, sym, false, ◌==◌, codes}
-use Rattle.std.proofs.lemmas.Slice.Eq.{bytes_eq-Decides}
-use Rattle.std.proofs.lemmas.Bool.Decides.{nat_tests}
+use Rattle.std.proofs.Common.{◌≡◌, [], ◌∷◌, sym, subst, map, string_bytes, arith}
+use Rattle.std.specs.Prelude.{IfNone}
+use Rattle.tdm_cli.specs.Words.{IsCommand}
+use Rattle.tdm_cli.proofs.WordLaws.{three, four}
 use Rattle.tdm_cli.proofs.command.parse.Goals as goal
 
--- a list of three elements is those at its three places
-three : {A : Type 0} (xs : List A) (a b c : A) → 3 ≤ length xs → length xs < 4 → a ≡ slice_index_or xs 0 a → b ≡ slice_index_or xs 1 b → c ≡ slice_index_or xs 2 c → xs ≡ a ∷ b ∷ c ∷ []
-three [] a b c low high ea eb ec = absurd (omega arith)
-three (x ∷ []) a b c low high ea eb ec = absurd (omega arith)
-three (x ∷ y ∷ []) a b c low high ea eb ec = absurd (omega arith)
-three (x ∷ y ∷ z ∷ []) a b c low high ea eb ec = cc
-three (x ∷ y ∷ z ∷ w ∷ ws) a b c low high ea eb ec = absurd (omega arith)
+pub returns-in-len3-clause-none : goal.returns-in-len3-clause-none
+returns-in-len3-clause-none c =
+    let items = three c.args.words.now c.verb-item.result c.first-item.result c.second-item.result (omega arith) (omega arith) c.verb-item.is c.first-item.is c.second-item.is in
+    let words : map string_bytes c.args.words.now ≡ c.as_str.result.now ∷ c.as_str-in-len3.result.now ∷ c.as_str-in-len3-2.result.now ∷ [] =
+    rw items (cc (c.as_str.ensures.value, c.as_str-in-len3.ensures.value, c.as_str-in-len3-2.ensures.value)) in
+    subst (λ ws. IfNone c.parse_two.result (¬ IsCommand ws)) (sym words) c.parse_two.ensures.none
 
--- a text that is not seen as empty has a byte
-named : (s : List ℕ) → false ≡ (length s == 0) → 0 < length s
-named s e = grind (arith, nat_tests)
-
--- src/command.rt:21:9
-pub returns-then-not-is_empty-2-clause-found : goal.returns-then-not-is_empty-2-clause-found
-returns-then-not-is_empty-2-clause-found c =
-    let words = three c.args.words.now c.verb-item.result c.board-item.result c.solution-item.result (omega arith) (omega arith) c.verb-item.is c.board-item.is c.solution-item.is in
-    let verb : c.as_str.result.now ≡ codes "route" = (bytes_eq-Decides _ _).0 (sym c.if-eq.ensures) in
-    record {
-      words_are = rw words (cc (c.as_str-board.ensures.value, c.as_str-solution.ensures.value, c.as_str.ensures.value, verb));
-      board_named = named c.as_str-board.result.now c.if-not-is_empty.ensures;
-      solution_named = named c.as_str-solution.result.now c.if-not-is_empty-2.ensures;
-    }
+pub returns-in-len4-clause-none : goal.returns-in-len4-clause-none
+returns-in-len4-clause-none c =
+    let items = four c.args.words.now c.verb-item-then-words-lt5.result c.board-item.result c.solution-item.result c.cert-item.result (omega arith) (omega arith) c.verb-item-then-words-lt5.is c.board-item.is c.solution-item.is c.cert-item.is in
+    let words : map string_bytes c.args.words.now ≡ c.as_str-in-len4.result.now ∷ c.as_str-in-len4-2.result.now ∷ c.as_str-in-len4-3.result.now ∷ c.as_str-in-len4-4.result.now ∷ [] =
+    rw items (cc (c.as_str-in-len4.ensures.value, c.as_str-in-len4-2.ensures.value, c.as_str-in-len4-3.ensures.value, c.as_str-in-len4-4.ensures.value)) in
+    subst (λ ws. IfNone c.parse_route.result (¬ IsCommand ws)) (sym words) c.parse_route.ensures.none

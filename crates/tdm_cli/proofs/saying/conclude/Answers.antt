@@ -1,5 +1,6 @@
 use Rattle.std.proofs.Common.{refl, inl, inr, take}
 use Rattle.tdm_cli.proofs.ChangeLaws.{says_said}
+use Rattle.tdm_cli.proofs.SettledLaws.{inputs-said, outputs-said}
 use Rattle.tdm_cli.proofs.saying.conclude.Goals as goal
 
 pub returns-in-Ok-clause-ends : goal.returns-in-Ok-clause-ends
@@ -22,3 +23,21 @@ returns-in-Err-NoMemory-clause-ends g c =
       says = says_said _ _ _ part.1;
       answers = inr refl;
     })
+
+pub returns-in-Ok-clause-inputs : goal.returns-in-Ok-clause-inputs
+returns-in-Ok-clause-inputs g c = inputs-said _ _ _ c.in-Ok.ensures.ok
+
+pub returns-in-Ok-clause-outputs : goal.returns-in-Ok-clause-outputs
+returns-in-Ok-clause-outputs g c = outputs-said _ _ _ c.in-Ok.ensures.ok
+
+pub returns-in-Err-Failed-clause-inputs : goal.returns-in-Err-Failed-clause-inputs
+returns-in-Err-Failed-clause-inputs g c = inputs-said _ _ _ c.in-Err-Failed.ensures.err.1
+
+pub returns-in-Err-Failed-clause-outputs : goal.returns-in-Err-Failed-clause-outputs
+returns-in-Err-Failed-clause-outputs g c = outputs-said _ _ _ c.in-Err-Failed.ensures.err.1
+
+pub returns-in-Err-NoMemory-clause-inputs : goal.returns-in-Err-NoMemory-clause-inputs
+returns-in-Err-NoMemory-clause-inputs g c = inputs-said _ _ _ c.in-Err-NoMemory.ensures.err.1
+
+pub returns-in-Err-NoMemory-clause-outputs : goal.returns-in-Err-NoMemory-clause-outputs
+returns-in-Err-NoMemory-clause-outputs g c = outputs-said _ _ _ c.in-Err-NoMemory.ensures.err.1

@@ -1,9 +1,8 @@
 use Rattle.std.proofs.Common.{◌≡◌, ℕ, ◌∷◌, [], ◌++◌, ◌+◌, arith, subst, sym, length}
 use Rattle.tdm_problem.specs.Board.{Board}
 use Rattle.tdm_problem.specs.Walk.{IsConnectable}
-use Rattle.tdm_problem.specs.Legal.{terminals_of}
+use Rattle.tdm_problem.specs.Legal.{terminals_of, source_of}
 use Rattle.shortest_forest.specs.Baseline.{IsBaseTree}
-use Rattle.tdm_cli.specs.Baseline.{source_of}
 use Rattle.tdm_cli.specs.Progress.{IsProgress}
 use Rattle.tdm_cli.proofs.ProgressLaws.{progress-past, progress-over, progress-kept}
 use Rattle.tdm_cli.proofs.BaselineLaws.{never-empty, on-ok-then}

@@ -1,9 +1,8 @@
 use Rattle.std.proofs.Common.{◌+◌, subst, sym}
 use Rattle.std.specs.List.Sorted.{IsStrictlyIncreasing}
 use Rattle.tdm_problem.specs.Walk.{IsConnectable}
-use Rattle.tdm_problem.specs.Legal.{terminals_of}
+use Rattle.tdm_problem.specs.Legal.{terminals_of, source_of}
 use Rattle.shortest_forest.specs.Baseline.{IsBaseTree}
-use Rattle.tdm_cli.specs.Baseline.{source_of}
 use Rattle.tdm_cli.specs.Progress.{IsProgress}
 use Rattle.tdm_cli.proofs.ProgressLaws.{progress-missing}
 use Rattle.tdm_cli.proofs.BaselineLaws.{base-at}

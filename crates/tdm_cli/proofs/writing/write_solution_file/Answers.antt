@@ -1,7 +1,8 @@
 use Rattle.std.proofs.Common.{inl, []}
 use Rattle.tdm_cli.proofs.ChangeLaws.{says_output_closed}
 use Rattle.tdm_cli.proofs.EndsLaws.{created-is-open, written-is-open, written-changes, written-part, closed-changes, whole-part, on-ok, on-err}
-use Rattle.tdm_cli.proofs.writing.write_file.Goals as goal
+use Rattle.tdm_cli.proofs.SettledLaws.{inputs-output_closed, inputs-written, inputs-twice, closed-finished}
+use Rattle.tdm_cli.proofs.writing.write_solution_file.Goals as goal
 
 pub returns-in-Err-clause-err : goal.returns-in-Err-clause-err
 returns-in-Err-clause-err g c = inl ([], says_output_closed _ _ _ c.in-Err.ensures.err)
@@ -20,3 +21,15 @@ returns-clause-ok g c = on-ok _ _ (closed-changes _ _ _ _ _ _ (written-changes _
 
 pub returns-clause-err : goal.returns-clause-err
 returns-clause-err g c = on-err _ _ (whole-part _ _ _ _ _ (closed-changes _ _ _ _ _ _ (written-changes _ _ _ _ _ _ c.in_default.ensures.ok c.in_default-write_solution.ensures.ok) c.finish.ensures.closed))
+
+pub returns-in-Err-clause-inputs : goal.returns-in-Err-clause-inputs
+returns-in-Err-clause-inputs g c = inputs-output_closed _ _ _ c.in-Err.ensures.err
+
+pub returns-in-Err-write_solution-clause-inputs : goal.returns-in-Err-write_solution-clause-inputs
+returns-in-Err-write_solution-clause-inputs g c = inputs-written _ _ _ _ _ _ c.in_default.ensures.ok c.in-Err-write_solution.ensures.err.1
+
+pub returns-clause-inputs : goal.returns-clause-inputs
+returns-clause-inputs g c = inputs-twice _ _ _ (inputs-written _ _ _ _ _ _ c.in_default.ensures.ok c.in_default-write_solution.ensures.ok) (inputs-output_closed _ _ _ c.finish.ensures.closed)
+
+pub returns-clause-finished : goal.returns-clause-finished
+returns-clause-finished g c = on-ok _ _ (closed-finished _ _ _ c.finish.ensures.closed)

@@ -1,0 +1,17 @@
+use Rattle.std.proofs.Common.{◌≡◌, inl, subst}
+use Rattle.std.specs.Prelude.{Err}
+use Rattle.bound_cert.specs.CertReading.{cert_of}
+use Rattle.tdm_cli.specs.CheckEnds.{CertInputEnds}
+use Rattle.tdm_cli.proofs.ChangeLaws.{changes_then_says}
+use Rattle.tdm_cli.proofs.InputLaws.{fault-before}
+use Rattle.tdm_cli.proofs.check.check_cert.Goals as goal
+
+pub returns-in-Err-clause-ends : goal.returns-in-Err-clause-ends
+returns-in-Err-clause-ends g c = λ before silent.
+    inl (c.refuse_cert.ensures.ends before c.args.problem.now c.args.cert.now (changes_then_says silent c.in-Err.ensures.silent) (fault-before (λ refusal bytes. cert_of c.args.problem.now bytes ≡ Err refusal) c.args.cert.now c.in-Err.fault before (g.D.Desk.seen c.args.desk.now) silent c.in-Err.ensures.fault))
+
+pub returns-in-Err-clause-read : goal.returns-in-Err-clause-read
+returns-in-Err-clause-read g c = λ ok. absurd (subst (CertInputEnds (g.D.Desk.seen c.args.desk.now) (g.D.Desk.seen c.refuse_cert.new.desk) c.args.problem.now c.args.cert.now) ok (c.refuse_cert.ensures.ends (g.D.Desk.seen c.args.desk.now) c.args.problem.now c.args.cert.now c.in-Err.ensures.silent c.in-Err.ensures.fault))
+
+pub returns-in-Err-clause-others : goal.returns-in-Err-clause-others
+returns-in-Err-clause-others g c = λ ok. absurd (subst (CertInputEnds (g.D.Desk.seen c.args.desk.now) (g.D.Desk.seen c.refuse_cert.new.desk) c.args.problem.now c.args.cert.now) ok (c.refuse_cert.ensures.ends (g.D.Desk.seen c.args.desk.now) c.args.problem.now c.args.cert.now c.in-Err.ensures.silent c.in-Err.ensures.fault))

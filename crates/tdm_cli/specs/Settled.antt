@@ -1,0 +1,37 @@
+-- What a run leaves of its inputs and outputs.
+use Rattle.std.specs.Prelude.{◌≡◌, [], IsTrue, IsFalse}
+use Rattle.std.specs.Option.{ForSome}
+use Rattle.tdm_desk.specs.declared.slots.InSlot.{InSlot}
+use Rattle.tdm_desk.specs.declared.slots.OutSlot.{OutSlot}
+use Rattle.tdm_desk.specs.Slots.{input_place, output_place}
+use Rattle.tdm_desk.specs.Seen.{Seen, input_is_open, rest_of, output_is_open}
+
+-- this input is open, and where the desk tells its bytes, it was read to its end
+pub record IsReadOut (slot : InSlot) (seen : Seen) : Type 0 where
+  pub is_open : IsTrue (input_is_open slot seen)
+  pub empty : ForSome (rest_of slot seen) (λ rest. rest ≡ [])
+
+-- this input is open where it was, and still gives what it gave
+pub record KeepsInput (before after : Seen) (slot : InSlot) : Type 0 where
+  pub opens : input_is_open slot after ≡ input_is_open slot before
+  pub rest : rest_of slot after ≡ rest_of slot before
+
+-- the inputs are as they were
+abbrev pub KeepsInputs : Seen → Seen → Type 0
+KeepsInputs before after = (slot : InSlot) → KeepsInput before after slot
+
+-- the inputs but this one are as they were
+abbrev pub KeepsOtherInputs : InSlot → Seen → Seen → Type 0
+KeepsOtherInputs read before after = (slot : InSlot) → (input_place read ≡ input_place slot → ⊥) → KeepsInput before after slot
+
+-- the outputs are open where they were
+abbrev pub KeepsOutputs : Seen → Seen → Type 0
+KeepsOutputs before after = (slot : OutSlot) → output_is_open slot after ≡ output_is_open slot before
+
+-- the outputs but this one are open where they were
+abbrev pub KeepsOtherOutputs : OutSlot → Seen → Seen → Type 0
+KeepsOtherOutputs out before after = (slot : OutSlot) → (output_place out ≡ output_place slot → ⊥) → output_is_open slot after ≡ output_is_open slot before
+
+-- this output is finished
+abbrev pub IsFinished : OutSlot → Seen → Type 0
+IsFinished slot seen = IsFalse (output_is_open slot seen)

@@ -1,0 +1,39 @@
+//! The words that are commands, and the reports, computed on a few of them.
+ghost use Rattle.std.specs.Prelude.{◌≡◌, [], ◌∷◌, codes};
+ghost use Rattle.cert_checker.specs.declared.answer.CheckAnswer.TheVariants.{Accepted, Rejected};
+ghost use Rattle.solution_eval.specs.declared.judgement.Verdict.TheVariants.{BadRatio, Legal, NotJoined, Overfull};
+ghost use Rattle.tdm_cli.specs.Reports.{answer_report, board_refused_report, cert_refused_report, no_input_report, read_fault_report, route_report, solution_refused_report, unconnectable_report, usage_report, use_limit_report, verdict_report};
+ghost use Rattle.tdm_cli.specs.Words.{IsCommand, IsEval, IsRoute};
+
+/// Each verb takes its number of names, none of them empty, and an output may bear the input's name, but not that of
+/// the other output.
+fn verbs_take_names()
+    ensures route { IsCommand (codes "route" ∷ codes "b" ∷ codes "s" ∷ codes "c" ∷ []) }
+    ensures over_input { IsRoute (codes "route" ∷ codes "b" ∷ codes "b" ∷ codes "c" ∷ []) (codes "b") (codes "b") (codes "c") }
+    ensures eval { IsCommand (codes "eval" ∷ codes "b" ∷ codes "s" ∷ []) }
+    ensures check { IsCommand (codes "check" ∷ codes "b" ∷ codes "c" ∷ []) }
+    ensures no_words { ¬ IsCommand [] }
+    ensures too_few { ¬ IsCommand (codes "route" ∷ codes "b" ∷ codes "s" ∷ []) }
+    ensures same_outputs { ¬ IsCommand (codes "route" ∷ codes "b" ∷ codes "s" ∷ codes "s" ∷ []) }
+    ensures no_name { ¬ IsCommand (codes "eval" ∷ codes "b" ∷ [] ∷ []) }
+    ensures other_word { ¬ IsCommand (codes "Eval" ∷ codes "b" ∷ codes "s" ∷ []) }
+{}
+
+/// Reports are lines of words and numbers.
+fn reports_are_lines()
+    ensures route { route_report 10 10 ≡ codes "value 10\nbound 10\n" }
+    ensures words { usage_report ≡ codes "words refused\n" }
+    ensures read_fault { read_fault_report 1 ≡ codes "read fault input 1\n" }
+    ensures no_input { no_input_report 1 ≡ codes "no input 1\n" }
+    ensures board { board_refused_report (codes "MissingLine") 4 ≡ codes "board refused MissingLine line 4\n" }
+    ensures solution { solution_refused_report (codes "RepeatedWire") 3 ≡ codes "solution refused RepeatedWire line 3\n" }
+    ensures certificate { cert_refused_report (codes "BadKind") 1 ≡ codes "certificate refused BadKind line 1\n" }
+    ensures nets { unconnectable_report (0 ∷ 2 ∷ []) ≡ codes "unconnectable net 0\nunconnectable net 2\n" }
+    ensures uses { use_limit_report ≡ codes "too many uses\n" }
+    ensures legal { verdict_report (Legal 20) ≡ codes "value 20\n" }
+    ensures not_joined { verdict_report (NotJoined 0) ≡ codes "illegal net 0 not joined\n" }
+    ensures bad_ratio { verdict_report (BadRatio 0 0 3) ≡ codes "illegal net 0 wire 0 ratio 3\n" }
+    ensures overfull { verdict_report (Overfull 0) ≡ codes "illegal wire 0 overfull\n" }
+    ensures accepted { answer_report (Accepted 10) ≡ codes "bound 10\n" }
+    ensures steep { answer_report (Rejected (record { potential = 0; wire = 0 })) ≡ codes "steep potential 0 wire 0\n" }
+{}
