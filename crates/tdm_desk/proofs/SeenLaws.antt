@@ -1,12 +1,12 @@
 -- What a caller sees after each call of a desk: its files, what was said, the rests and the open slots.
-use Rattle.std.proofs.Common.{is_some, ◌≡◌, ℕ, ◌+◌, true, false, [], ◌++◌, refl, sym, ap, ◌∙◌, append_assoc, drop, length, take, arith, inr}
-use Rattle.std.proofs.lemmas.List.{append-nil, drop-drop, take_all}
+use Rattle.std.proofs.Common.{◌≡◌, ℕ, ◌+◌, true, false, [], ◌++◌, refl, sym, ap, ◌∙◌, append_assoc, drop}
+use Rattle.std.proofs.lemmas.List.{append-nil, drop-drop}
 use Rattle.std.specs.Prelude.{Option, Some, None, option_map}
 use Rattle.tdm_desk.specs.declared.slots.InSlot.{InSlot}
 use Rattle.tdm_desk.specs.declared.slots.OutSlot.{OutSlot}
 use Rattle.tdm_desk.specs.Slots.{at, put, input_place, output_place}
 use Rattle.tdm_desk.specs.Files.{Bytes, Name, Files, bytes_under, with_file}
-use Rattle.tdm_desk.specs.Seen.{Told, Seen, opened, input_closed, taken, created, output_closed, with_output, written, said, input_is_open, output_is_open, files_of, rest_of, said_of, HasFile, MayHavePrefix, HasSaid, HasSaidPrefix, PrefixSaid, PrefixWritten, tells}
+use Rattle.tdm_desk.specs.Seen.{Told, Seen, opened, input_closed, taken, created, output_closed, with_output, written, said, input_is_open, output_is_open, files_of, rest_of, said_of}
 use Rattle.tdm_desk.proofs.SlotLaws.{at-put, at-put_other, put-put, put-at}
 use Rattle.tdm_desk.proofs.FileLaws.{with_more-with_file, with_more-nothing, with_more-with_more}
 
@@ -229,88 +229,6 @@ pub said-both : (a b : Bytes) (s : Seen) → said b (said a s) ≡ said (a ++ b)
 unfolding said
 said-both a b s = ap (λ o. record s { told = o }) (map-map _ _ _ s.told (λ t. ap (λ c. record t { said = c }) (append_assoc t.said a b)))
 
--- ---- whether the desk tells
-
-is_some-map : {A B : Type 0} (f : A → B) (o : Option A) → is_some (option_map f o) ≡ is_some o
-is_some-map f None = refl
-is_some-map f (Some a) = refl
-
--- a desk tells its files and what was said, or neither
-pub is_some-files : (s : Seen) → is_some (files_of s) ≡ tells s
-unfolding files_of tells
-is_some-files s = is_some-map _ s.told
-
-pub is_some-said : (s : Seen) → is_some (said_of s) ≡ tells s
-unfolding said_of tells
-is_some-said s = is_some-map _ s.told
-
-pub is_some-rest : (slot : InSlot) (s : Seen) → is_some (rest_of slot s) ≡ tells s
-unfolding rest_of tells
-is_some-rest slot s = is_some-map _ s.told
-
-pub tells-opened : (slot : InSlot) (name : Name) (s : Seen) → tells (opened slot name s) ≡ tells s
-unfolding tells opened
-tells-opened slot name s = is_some-map _ s.told
-
-pub tells-input_closed : (slot : InSlot) (s : Seen) → tells (input_closed slot s) ≡ tells s
-unfolding tells input_closed
-tells-input_closed slot s = is_some-map _ s.told
-
-pub tells-taken : (slot : InSlot) (count : ℕ) (s : Seen) → tells (taken slot count s) ≡ tells s
-unfolding tells taken
-tells-taken slot count s = is_some-map _ s.told
-
-pub tells-created : (slot : OutSlot) (name : Name) (s : Seen) → tells (created slot name s) ≡ tells s
-unfolding tells created
-tells-created slot name s = is_some-map _ s.told
-
-pub tells-output_closed : (slot : OutSlot) (s : Seen) → tells (output_closed slot s) ≡ tells s
-unfolding tells output_closed
-tells-output_closed slot s = is_some-map _ s.told
-
-pub tells-written : (slot : OutSlot) (bytes : Bytes) (s : Seen) → tells (written slot bytes s) ≡ tells s
-unfolding tells written
-tells-written slot bytes s = is_some-map _ s.told
-
-pub tells-said : (bytes : Bytes) (s : Seen) → tells (said bytes s) ≡ tells s
-unfolding tells said
-tells-said bytes s = is_some-map _ s.told
-
--- ---- what a caller promises
-
-pub whole_prefix : (name : Name) (bytes : Bytes) (before after : Option Files) → HasFile name bytes before after → MayHavePrefix name bytes before after
-whole_prefix name bytes before after is = inr (length bytes, is ∙ ap (λ b. option_map (with_file name b) before) (sym (take_all (length bytes) bytes (omega arith))))
-
-pub whole_said : (bytes : Bytes) (before after : Option Bytes) → HasSaid bytes before after → HasSaidPrefix bytes before after
-whole_said bytes before after is = (length bytes, is ∙ ap (λ b. option_map (λ earlier. earlier ++ b) before) (sym (take_all (length bytes) bytes (omega arith))))
-
--- an output was created, written and closed
-pub file_finished : (slot : OutSlot) (name : Name) (bytes : Bytes) (before first second after : Seen)
-    → first ≡ created slot name before → second ≡ written slot bytes first → after ≡ output_closed slot second
-    → HasFile name bytes (files_of before) (files_of after)
-file_finished slot name bytes before first second after is-created is-written is-closed =
-    ap files_of is-closed
-    ∙ files-output_closed slot second
-    ∙ ap files_of (is-written ∙ ap (written slot bytes) is-created)
-    ∙ files-written-created slot bytes name before
-
--- a prefix was said
-pub prefix_said : (bytes : Bytes) (before after : Seen) → PrefixSaid bytes before after → HasSaidPrefix bytes (said_of before) (said_of after)
-prefix_said bytes before after is = (is.0, ap said_of is.1 ∙ said-said (take is.0 bytes) before)
-
--- an output was created, and a prefix was written
-pub prefix_written : (slot : OutSlot) (name : Name) (bytes : Bytes) (before first after : Seen)
-    → first ≡ created slot name before → PrefixWritten slot bytes first after
-    → MayHavePrefix name bytes (files_of before) (files_of after)
-prefix_written slot name bytes before first after is-created is =
-    inr (is.0, ap files_of (is.1 ∙ ap (written slot (take is.0 bytes)) is-created) ∙ files-written-created slot (take is.0 bytes) name before)
-
-as_before : (before : Option Bytes) → option_map (λ (earlier : Bytes). earlier ++ []) before ≡ before
-as_before before = unchanged (λ (earlier : Bytes). earlier ++ []) before append-nil
-
-pub nothing_said : (bytes : Bytes) (before after : Option Bytes) → after ≡ before → HasSaidPrefix bytes before after
-nothing_said bytes before after is = (0, is ∙ sym (as_before before))
-
 -- what a call leaves of the files, of what was said, and of the open slots
 pub ruleset after_calls = (
   files-opened,
@@ -339,7 +257,4 @@ pub ruleset after_calls = (
   output_is_open-output_closed,
   output_is_open-written,
   output_is_open-said,
-  whole_prefix,
-  whole_said,
-  nothing_said,
 )

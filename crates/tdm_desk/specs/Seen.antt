@@ -1,5 +1,5 @@
 -- What is seen of a desk, and what each of its calls does to that.
-use Rattle.std.specs.Prelude.{◌≡◌, ◌⊎◌, ℕ, Bool, true, false, [], ◌++◌, Option, Some, None, take, drop, is_some, option_map, option_and_then}
+use Rattle.std.specs.Prelude.{◌≡◌, ℕ, Bool, true, false, [], ◌++◌, Option, Some, None, take, drop, option_map}
 use Rattle.tdm_desk.specs.declared.slots.InSlot.{InSlot}
 use Rattle.tdm_desk.specs.declared.slots.OutSlot.{OutSlot}
 use Rattle.tdm_desk.specs.declared.slots.Slots.{Slots}
@@ -98,17 +98,9 @@ files_of s = option_map (λ (t : Told). t.files) s.told
 unfoldable pub rest_of : InSlot → Seen → Option Bytes
 rest_of slot s = option_map (λ (t : Told). at (input_place slot) t.rests) s.told
 
--- the name of an open output, where the desk tells
-unfoldable pub name_of : OutSlot → Seen → Option Name
-name_of slot s = option_and_then (λ (t : Told). at (output_place slot) t.names) s.told
-
 -- what was said so far, where the desk tells
 unfoldable pub said_of : Seen → Option Bytes
 said_of s = option_map (λ (t : Told). t.said) s.told
-
--- whether the desk tells its bytes
-unfoldable pub tells : Seen → Bool
-tells s = is_some s.told
 
 -- ---- where a call of several steps stopped
 
@@ -123,21 +115,3 @@ PrefixWritten slot bytes before after = (count : ℕ) × (after ≡ written slot
 -- a prefix of these bytes was said, which may be empty
 abbrev pub PrefixSaid : Bytes → Seen → Seen → Type 0
 PrefixSaid bytes before after = (count : ℕ) × (after ≡ said (take count bytes) before)
-
--- ---- what a caller promises of the files
-
--- the file of this name holds these bytes, and every other is as it was
-abbrev pub HasFile : Name → Bytes → Option Files → Option Files → Type 0
-HasFile name bytes before after = after ≡ option_map (with_file name bytes) before
-
--- the files are as they were, or the one of this name holds a prefix of these bytes, which may be empty or whole
-abbrev pub MayHavePrefix : Name → Bytes → Option Files → Option Files → Type 0
-MayHavePrefix name bytes before after = (after ≡ before) ⊎ ((count : ℕ) × HasFile name (take count bytes) before after)
-
--- these bytes were said
-abbrev pub HasSaid : Bytes → Option Bytes → Option Bytes → Type 0
-HasSaid bytes before after = after ≡ option_map (λ earlier. earlier ++ bytes) before
-
--- a prefix of these bytes was said, which may be empty or whole
-abbrev pub HasSaidPrefix : Bytes → Option Bytes → Option Bytes → Type 0
-HasSaidPrefix bytes before after = (count : ℕ) × HasSaid (take count bytes) before after

@@ -71,7 +71,9 @@ fn a_desk_in_memory_writes_over_an_open_input_and_says(rt: HostRuntime) -> Resul
 }
 
 #[test]
-fn a_desk_of_real_files_reads_what_it_wrote(rt: HostRuntime) -> Result<(), Error> {
+fn a_desk_of_real_files_reads_what_it_wrote_and_fails_on_a_folder(
+    rt: HostRuntime,
+) -> Result<(), Error> {
     let name = "tdm_desk_trial_file";
     let mut desk = StdDesk::new(rt.clone()?);
     assert!(rt;
@@ -86,6 +88,8 @@ fn a_desk_of_real_files_reads_what_it_wrote(rt: HostRuntime) -> Result<(), Error
             Err(DeskFault::Failed)
         )
     );
+    assert!(rt; loaded(rt.alloc(), &mut desk, InSlot::In2, ".", 9).is_err());
+    assert!(rt; desk.create(OutSlot::Out1, ".").is_err());
     assert!(rt; write_two(&mut desk, OutSlot::Out0, name, b"first\nsecond\n").is_ok());
     match loaded(rt.alloc(), &mut desk, InSlot::In0, name, 100) {
         Ok(bytes) => assert_eq!(rt; bytes.as_slice(), &b"first\nsecond\n"[..]),

@@ -13,23 +13,23 @@ use tdm_lines::decimal;
 
 /// Writes what is pending to the file of an open output, so that nothing is pending.
 ///
-/// After a fault a prefix of it was written, and the slot stays open.
+/// After a fault a prefix of it was written, nothing is pending, and the slot stays open.
 pub fn flush<D: Desk>(desk: &mut D, slot: OutSlot, pending: &mut Pending) -> Result<(), DeskFault>
     requires { IsTrue (output_is_open slot (D.seen desk.old)) }
     ensures ok { OnOk result (D.seen desk.new ≡ written slot pending.old (D.seen desk.old)) }
-    ensures emptied { OnOk result (pending.new ≡ []) }
+    ensures emptied { pending.new ≡ [] }
     ensures err { OnErr result (PrefixWritten slot pending.old
         (D.seen desk.old) (D.seen desk.new)) }
     ensures failed { IsErrOf result DeskFault.Failed →
         WritingFailed D.counts D.steady desk.old desk.new }
     ensures counted { CountsFaults D.counts D.steady desk.old desk.new }
 {
-    write_whole(desk, slot, pending.as_slice())?;
+    let written = write_whole(desk, slot, pending.as_slice());
     pending.clear();
-    Ok(())
+    written
 }
 
-// Adds a piece to the text. Where there is no room for it, what is pending is written first.
+/// Adds a piece to the text. Where there is no room for it, what is pending is written first.
 fn put<D: Desk>(
     desk: &mut D,
     slot: OutSlot,
@@ -42,6 +42,7 @@ fn put<D: Desk>(
         (D.seen desk.old) pending.new (D.seen desk.new)) }
     ensures err { OnErr result (PrefixWritten slot (pending.old ++ piece.now)
         (D.seen desk.old) (D.seen desk.new)) }
+    ensures emptied { OnErr result (pending.new ≡ []) }
     ensures failed { IsErrOf result DeskFault.Failed →
         WritingFailed D.counts D.steady desk.old desk.new }
     ensures counted { CountsFaults D.counts D.steady desk.old desk.new }
@@ -55,7 +56,7 @@ fn put<D: Desk>(
 
 /// Adds a number to the text, and the byte behind it.
 ///
-/// After a fault a prefix of what was pending and of these was written, and the slot stays open.
+/// After a fault a prefix of what was pending and of these was written, nothing is pending, and the slot stays open.
 pub fn put_number<D: Desk>(
     desk: &mut D,
     slot: OutSlot,
@@ -68,6 +69,7 @@ pub fn put_number<D: Desk>(
         (D.seen desk.old) pending.new (D.seen desk.new)) }
     ensures err { OnErr result (PrefixWritten slot (pending.old ++ number_then number end)
         (D.seen desk.old) (D.seen desk.new)) }
+    ensures emptied { OnErr result (pending.new ≡ []) }
     ensures failed { IsErrOf result DeskFault.Failed →
         WritingFailed D.counts D.steady desk.old desk.new }
     ensures counted { CountsFaults D.counts D.steady desk.old desk.new }
@@ -79,7 +81,7 @@ pub fn put_number<D: Desk>(
 
 /// Adds each number to the text, and behind each the same byte.
 ///
-/// After a fault a prefix of what was pending and of these was written, and the slot stays open.
+/// After a fault a prefix of what was pending and of these was written, nothing is pending, and the slot stays open.
 pub fn put_numbers<D: Desk>(
     desk: &mut D,
     slot: OutSlot,
@@ -92,6 +94,7 @@ pub fn put_numbers<D: Desk>(
         (D.seen desk.old) pending.new (D.seen desk.new)) }
     ensures err { OnErr result (PrefixWritten slot (pending.old ++ numbers_then end numbers.now)
         (D.seen desk.old) (D.seen desk.new)) }
+    ensures emptied { OnErr result (pending.new ≡ []) }
     ensures failed { IsErrOf result DeskFault.Failed →
         WritingFailed D.counts D.steady desk.old desk.new }
     ensures counted { CountsFaults D.counts D.steady desk.old desk.new }
@@ -104,7 +107,7 @@ pub fn put_numbers<D: Desk>(
 
 /// Adds a line to the text, of one number or more, with single spaces between them.
 ///
-/// After a fault a prefix of what was pending and of the line was written, and the slot stays open.
+/// After a fault a prefix of what was pending and of the line was written, nothing is pending, and the slot stays open.
 pub fn put_line<D: Desk>(
     desk: &mut D,
     slot: OutSlot,
@@ -117,6 +120,7 @@ pub fn put_line<D: Desk>(
         (D.seen desk.old) pending.new (D.seen desk.new)) }
     ensures err { OnErr result (PrefixWritten slot (pending.old ++ line_text numbers.now)
         (D.seen desk.old) (D.seen desk.new)) }
+    ensures emptied { OnErr result (pending.new ≡ []) }
     ensures failed { IsErrOf result DeskFault.Failed →
         WritingFailed D.counts D.steady desk.old desk.new }
     ensures counted { CountsFaults D.counts D.steady desk.old desk.new }
