@@ -29,7 +29,7 @@ PATH_NETS = [8_195, 8_194]
 RING_FPGAS = 4_096
 
 # different ratios on one wire whose reciprocals sum to exactly 1
-EXACT_RATIOS = [1_000, 4_000, 16_000]
+EXACT_RATIOS = [1_000, 4_000, 16_000, 64_000]
 
 
 def path(folder: Path, nets: int) -> Path:
@@ -62,12 +62,12 @@ def exact(folder: Path, count: int) -> tuple:
 
 
 def board(folder: Path, size: tuple) -> Path:
-    path = folder / ("board-" + "-".join(map(str, size)) + ".txt")
-    if not path.exists():
+    at = folder / ("board-" + "-".join(map(str, size)) + ".txt")
+    if not at.exists():
         words = [sys.executable, str(Path(__file__).with_name("make_board.py")), str(SEED)]
-        with open(path, "w") as text:
+        with open(at, "w") as text:
             subprocess.run(words + [str(n) for n in size], stdout=text, check=True)
-    return path
+    return at
 
 
 def measured(words: list) -> tuple:
