@@ -6,7 +6,8 @@ ghost use Rattle.solution_text.specs.declared.refusal.SolutionFault.TheVariants.
 use std::alloc::AllocError;
 use thiserror::Error;
 
-/// What is wrong with a text that is no solution. On one line, the earlier kind is named.
+/// What is wrong with a text that is no solution. Of the kinds from BadNumber to RepeatedWire that a line has, the
+/// earlier one is named; a line past the last one is an ExtraLine whatever it holds. TooLong comes before all.
 #[derive(Clone, Copy, Debug, PartialEq, Eq)]
 pub enum SolutionKind {
     /// Some token of the line is not one or more decimal digits.
