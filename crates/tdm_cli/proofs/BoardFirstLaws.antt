@@ -22,7 +22,7 @@ or-calls f (inr b) = inr (f b)
 
 module _ (before after : Seen) (name : Name) (files : Files) (told : files_of before ≡ Some files) (Ends CallsFor : Board → Status → Type 0) where
   pub board-first-cause : ((board : Board) (answer : Status) → Ends board answer → IsOutsideFault answer ⊎ CallsFor board answer) → (answer : Status) → BoardFirstEnds before after name Ends answer → IsOutsideFault answer ⊎ BoardFirstCallsFor files name CallsFor answer
-  board-first-cause cause answer (inl ends) = or-calls (λ calls. inl calls) (board-cause before after name files told answer ends)
+  board-first-cause cause answer (inl (ends, _)) = or-calls (λ calls. inl calls) (board-cause before after name files told answer ends)
   board-first-cause cause answer (inr (board, is, ends)) = or-calls (λ calls. inr (board, is files told, calls)) (cause board answer ends)
 
 module _ (files : Files) (name : Name) where

@@ -34,5 +34,5 @@ module _ (before after : Seen) where
 
   -- what comes behind the board changes no file
   pub board-first-kept : (Ends : Board → Status → Type 0) → ((board : Board) (answer : Status) → Ends board answer → files_of after ≡ files_of before) → (name : Name) (answer : Status) → BoardFirstEnds before after name Ends answer → files_of after ≡ files_of before
-  board-first-kept Ends kept name answer (inl ends) = board-kept name answer ends
+  board-first-kept Ends kept name answer (inl (ends, _)) = board-kept name answer ends
   board-first-kept Ends kept name answer (inr (board, is, ends)) = kept board answer ends

@@ -21,9 +21,7 @@ use Rattle.bound_cert.proofs.CertSize.{never_too_long as cert_never_too_long}
 use Rattle.tdm_cli.specs.Reports.{route_report}
 use Rattle.tdm_cli.specs.TwoFiles.{with_two_files}
 use Rattle.tdm_cli.specs.Certified.{IsProof, IsBestCert}
-use Rattle.tdm_cli.specs.Settled.{IsReadOut, IsFinished}
-use Rattle.tdm_desk.specs.declared.slots.InSlot.TheVariants.{In0}
-use Rattle.tdm_desk.specs.declared.slots.OutSlot.TheVariants.{Out0, Out1}
+use Rattle.tdm_cli.specs.Settled.{IsSettled}
 use Rattle.tdm_cli.specs.declared.status.Status.{Status}
 use Rattle.tdm_cli.specs.declared.status.Status.TheVariants as status
 use Rattle.tdm_cli.specs.Ends.{BoardInputEnds, ObstacleEnds, DeliveryEnds, NetsEnds, RouteEnds}
@@ -170,10 +168,10 @@ share-floor board cert best floor is = by best.better
     by (inl hop) = omega (arith, best.is_share.only_floor floor is, ap (bound_of board) hop.0, hop.1)
     by (inr share) = omega (arith, best.is_share.only_floor floor is, ap (bound_of board) share.0)
 
-pub route-written : (before after : Seen) (name solution cert : Name) (files : Files) → files_of before ≡ Some files → RouteEnds before after name solution cert status.Ok → IsReadOut In0 after → IsFinished Out0 after × IsFinished Out1 after → IsRouted files name solution cert before after
-route-written before after name solution cert files told (inl ends) read finished = absurd ends
-route-written before after name solution cert files told (inr (board, is, inl obstacle)) read finished = absurd obstacle
-route-written before after name solution cert files told (inr (board, is, inr (routing, proof, baseline, best, changes))) read finished = record {
+pub route-written : (before after : Seen) (name solution cert : Name) (files : Files) → files_of before ≡ Some files → RouteEnds before after name solution cert status.Ok → IsSettled before after → IsRouted files name solution cert before after
+route-written before after name solution cert files told (inl ends) settled = absurd ends
+route-written before after name solution cert files told (inr (board, is, inl obstacle)) settled = absurd obstacle
+route-written before after name solution cert files told (inr (board, is, inr (routing, proof, baseline, best, changes))) settled = record {
   board = board;
   described = is files told;
   routing = routing;
@@ -193,8 +191,7 @@ route-written before after name solution cert files told (inr (board, is, inr (r
       let short = cert_never_too_long board proof baseline.sayable.limits is.within is.for_board is.few in
       cert_text_reads_back board proof is.within is.for_board short;
   told = changes.said;
-  read_out = read;
-  finished = finished;
+  settled = settled;
 }
 
 -- a fault of the outside that is neither of reading nor of writing is want of memory

@@ -7,7 +7,7 @@ use Rattle.std.proofs.lemmas.Bool.{lt-ltb, cases_lt}
 use Rattle.tdm_desk.specs.declared.slots.InSlot.{InSlot}
 use Rattle.tdm_desk.specs.Files.{Bytes, Name}
 use Rattle.tdm_desk.specs.Seen.{Seen, opened, taken, input_is_open, rest_of}
-use Rattle.tdm_desk.proofs.SeenLaws.{input_is_open-opened, input_is_open-taken, input_is_open-opened_other, rest-taken, rest-opened_other, rest-taken_other}
+use Rattle.tdm_desk.proofs.SeenLaws.{input_is_open-opened, input_is_open-taken, rest-taken}
 use Rattle.tdm_problem.specs.Board.{Board}
 use Rattle.tdm_problem.specs.Routing.{Routing}
 use Rattle.contest_input.specs.declared.TheConstants.{MAX_BOARD_BYTES}
@@ -15,7 +15,7 @@ use Rattle.contest_input.specs.BoardText.{board_of}
 use Rattle.solution_text.specs.Reading.{solution_of}
 use Rattle.bound_cert.specs.Certificate.{Cert}
 use Rattle.bound_cert.specs.CertReading.{cert_of}
-use Rattle.tdm_cli.specs.Settled.{IsReadOut, KeepsOtherInputs}
+use Rattle.tdm_cli.specs.Settled.{IsReadOut}
 
 some-same : {A : Type 0} (x y : A) → ◌≡◌ {A = Option A} (Some x) (Some y) → x ≡ y
 some-same x y e = cc
@@ -32,13 +32,6 @@ all-taken slot limit name bytes before between after first is read short = recor
     by (Some rest) left e same =
         let whole : length rest ≤ limit = omega (arith, ap length (read rest e), length-take (limit + 1) rest, short) in
         some-same left (drop (limit + 1) rest) (same ∙ ap (option_map (drop (limit + 1))) e) ∙ drop_all (limit + 1) rest (omega (arith, whole))
-
--- an input that is read leaves the others
-pub others-taken : (slot : InSlot) (name : Name) (count : ℕ) (before between after : Seen) → between ≡ opened slot name before → after ≡ taken slot count between → KeepsOtherInputs slot before after
-others-taken slot name count before between after first second = λ other apart. record {
-  opens = ap (input_is_open other) second ∙ input_is_open-taken other slot count between ∙ ap (input_is_open other) first ∙ input_is_open-opened_other other slot name before apart;
-  rest = ap (rest_of other) second ∙ rest-taken_other other slot count between apart ∙ ap (rest_of other) first ∙ rest-opened_other other slot name before apart;
-}
 
 -- a text that says something is not too long
 pub board-within : (text : Bytes) (board : Board) → board_of text ≡ Ok board → length text ≤ MAX_BOARD_BYTES

@@ -21,9 +21,7 @@ use Rattle.bound_cert.specs.Floors.{IsHopFloor, IsShareFloor}
 use Rattle.cert_checker.specs.Answer.{IsLowerBound}
 use Rattle.tdm_cli.specs.declared.status.Status.{Status}
 use Rattle.tdm_cli.specs.declared.status.Status.TheVariants as status
-use Rattle.tdm_desk.specs.declared.slots.InSlot.TheVariants.{In0}
-use Rattle.tdm_desk.specs.declared.slots.OutSlot.TheVariants.{Out0, Out1}
-use Rattle.tdm_cli.specs.Settled.{IsReadOut, IsFinished}
+use Rattle.tdm_cli.specs.Settled.{IsSettled}
 use Rattle.tdm_cli.specs.TwoFiles.{with_two_files}
 use Rattle.tdm_cli.specs.Certified.{IsBestCert}
 use Rattle.shortest_forest.specs.Baseline.{AreBaseTrees}
@@ -83,5 +81,4 @@ pub record IsRouted (files : Files) (name solution cert : Name) (before after : 
   pub reads_back : solution_of board (solution_text routing) ≡ Ok routing
   pub cert_reads_back : cert_of board (cert_text proof) ≡ Ok proof
   pub told : said_of after ≡ option_map (λ s. s ++ route_report (value_of board routing) (bound_of board proof)) (said_of before)
-  pub read_out : IsReadOut In0 after
-  pub finished : IsFinished Out0 after × IsFinished Out1 after
+  pub settled : IsSettled before after

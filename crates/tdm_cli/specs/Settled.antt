@@ -2,7 +2,9 @@
 use Rattle.std.specs.Prelude.{◌≡◌, [], IsTrue, IsFalse}
 use Rattle.std.specs.Option.{ForSome}
 use Rattle.tdm_desk.specs.declared.slots.InSlot.{InSlot}
+use Rattle.tdm_desk.specs.declared.slots.InSlot.TheVariants.{In0, In1, In2}
 use Rattle.tdm_desk.specs.declared.slots.OutSlot.{OutSlot}
+use Rattle.tdm_desk.specs.declared.slots.OutSlot.TheVariants.{Out0, Out1, Out2}
 use Rattle.tdm_desk.specs.Slots.{input_place, output_place}
 use Rattle.tdm_desk.specs.Seen.{Seen, input_is_open, rest_of, output_is_open}
 
@@ -32,6 +34,26 @@ KeepsOutputs before after = (slot : OutSlot) → output_is_open slot after ≡ o
 abbrev pub KeepsOtherOutputs : OutSlot → Seen → Seen → Type 0
 KeepsOtherOutputs out before after = (slot : OutSlot) → (output_place out ≡ output_place slot → ⊥) → output_is_open slot after ≡ output_is_open slot before
 
+-- no other input and no output was opened, closed or read from
+pub record TouchesOnly (slot : InSlot) (before after : Seen) : Type 0 where
+  pub inputs : KeepsOtherInputs slot before after
+  pub outputs : KeepsOutputs before after
+
 -- this output is finished
 abbrev pub IsFinished : OutSlot → Seen → Type 0
 IsFinished slot seen = IsFalse (output_is_open slot seen)
+
+-- the first input was read to its end, the first two outputs are finished, and the others were not touched
+pub record IsSettled (before after : Seen) : Type 0 where
+  pub board : IsReadOut In0 after
+  pub inputs : KeepsOtherInputs In0 before after
+  pub solution : IsFinished Out0 after
+  pub cert : IsFinished Out1 after
+  pub third : output_is_open Out2 after ≡ output_is_open Out2 before
+
+-- the first two inputs were read to their ends, and neither the third nor any output was touched
+pub record HasReadBoth (before after : Seen) : Type 0 where
+  pub board : IsReadOut In0 after
+  pub second : IsReadOut In1 after
+  pub third : KeepsInput before after In2
+  pub outputs : KeepsOutputs before after

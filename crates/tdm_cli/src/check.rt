@@ -2,13 +2,13 @@
 ghost use Rattle.std.specs.Prelude.{◌≡◌, []};
 ghost use Rattle.tdm_desk.specs.Seen.{Seen};
 ghost use Rattle.tdm_desk.specs.Counts.{CountsFaults, ReadingFailed, WritingFailed};
-ghost use Rattle.tdm_desk.specs.declared.slots.InSlot.TheVariants.{In0, In1};
+ghost use Rattle.tdm_desk.specs.declared.slots.InSlot.TheVariants.{In1};
 ghost use Rattle.tdm_problem.specs.Board.{Board};
 ghost use Rattle.bound_cert.specs.Certificate.{Cert, IsCertFor};
 ghost use Rattle.cert_checker.specs.Answer.{IsAnswer};
 ghost use Rattle.tdm_cli.specs.Change.{Says};
 ghost use Rattle.tdm_cli.specs.Saying.{ReportsReadFault};
-ghost use Rattle.tdm_cli.specs.Settled.{IsReadOut, KeepsInputs, KeepsOtherInputs};
+ghost use Rattle.tdm_cli.specs.Settled.{IsReadOut, KeepsInputs, KeepsOutputs, TouchesOnly, HasReadBoth};
 ghost use Rattle.tdm_cli.specs.CheckEnds.{status_of, AnswerEnds, CheckingEnds, CheckEnds};
 ghost use Rattle.tdm_cli.specs.declared.status.Status.TheVariants.{Ok, ReadFault, WriteFault};
 
@@ -38,6 +38,7 @@ fn say_answer<D: Desk>(alloc: Global, desk: &mut D, answer: CheckAnswer) -> Stat
     ensures ends { (before : Seen) (board : Board) (cert : Cert) → Says before (D.seen desk.old) []
         → IsAnswer board cert answer → AnswerEnds before (D.seen desk.new) board cert result }
     ensures inputs { KeepsInputs (D.seen desk.old) (D.seen desk.new) }
+    ensures outputs { KeepsOutputs (D.seen desk.old) (D.seen desk.new) }
     ensures write_fault { result ≡ WriteFault → WritingFailed D.counts D.steady desk.old desk.new }
     ensures counted { CountsFaults D.counts D.steady desk.old desk.new }
 {
@@ -56,6 +57,7 @@ fn answer_cert<D: Desk>(
     ensures ends { (before : Seen) → Says before (D.seen desk.old) []
         → AnswerEnds before (D.seen desk.new) problem.now cert.now result }
     ensures inputs { KeepsInputs (D.seen desk.old) (D.seen desk.new) }
+    ensures outputs { KeepsOutputs (D.seen desk.old) (D.seen desk.new) }
     ensures write_fault { result ≡ WriteFault → WritingFailed D.counts D.steady desk.old desk.new }
     ensures counted { CountsFaults D.counts D.steady desk.old desk.new }
 {
@@ -70,7 +72,7 @@ fn check_cert<D: Desk>(alloc: Global, desk: &mut D, problem: &Problem, cert: &st
     ensures ends { (before : Seen) → Says before (D.seen desk.old) []
         → CheckingEnds before (D.seen desk.new) problem.now cert.now result }
     ensures read { result ≡ Ok → IsReadOut In1 (D.seen desk.new) }
-    ensures others { result ≡ Ok → KeepsOtherInputs In1 (D.seen desk.old) (D.seen desk.new) }
+    ensures others { result ≡ Ok → TouchesOnly In1 (D.seen desk.old) (D.seen desk.new) }
     ensures read_fault { result ≡ ReadFault →
         ReadingFailed D.counts D.steady In1 desk.old desk.new }
     ensures write_fault { result ≡ WriteFault → WritingFailed D.counts D.steady desk.old desk.new }
@@ -86,7 +88,7 @@ fn check_cert<D: Desk>(alloc: Global, desk: &mut D, problem: &Problem, cert: &st
 /// pair.
 pub fn check<D: Desk>(alloc: Global, desk: &mut D, board: &str, cert: &str) -> Status
     ensures ends { CheckEnds (D.seen desk.old) (D.seen desk.new) board.now cert.now result }
-    ensures read { result ≡ Ok → IsReadOut In0 (D.seen desk.new) × IsReadOut In1 (D.seen desk.new) }
+    ensures read { result ≡ Ok → HasReadBoth (D.seen desk.old) (D.seen desk.new) }
     ensures read_fault { result ≡ ReadFault →
         ReportsReadFault D.counts D.steady D.seen desk.old desk.new }
     ensures write_fault { result ≡ WriteFault → WritingFailed D.counts D.steady desk.old desk.new }

@@ -6,6 +6,7 @@ ghost use Rattle.tdm_desk.specs.Counts.{CountsFaults, WritingFailed};
 ghost use Rattle.tdm_problem.specs.Board.{Board};
 ghost use Rattle.tdm_cli.specs.Change.{Says};
 ghost use Rattle.tdm_cli.specs.Input.{UnreadShows, BoardFaultShows, SolutionFaultShows, CertFaultShows};
+ghost use Rattle.tdm_cli.specs.Settled.{KeepsInputs, KeepsOutputs};
 ghost use Rattle.tdm_cli.specs.Obstacle.{ObstacleShows};
 ghost use Rattle.tdm_cli.specs.Ends.{UnreadEnds, BoardInputEnds, ObstacleEnds};
 ghost use Rattle.tdm_cli.specs.EvalEnds.{SolutionInputEnds};
@@ -35,6 +36,8 @@ const SECOND_PLACE: u32 = 2;
 fn refuse_unread<D: Desk>(alloc: Global, desk: &mut D, place: u32, unread: &Unread) -> Status
     ensures ends { (before : Seen) (name : Name) → Says before (D.seen desk.old) []
         → UnreadShows before name unread.now → UnreadEnds before (D.seen desk.new) place name result }
+    ensures inputs { KeepsInputs (D.seen desk.old) (D.seen desk.new) }
+    ensures outputs { KeepsOutputs (D.seen desk.old) (D.seen desk.new) }
     ensures read_fault { result ≡ ReadFault → unread.now ≡ Failed }
     ensures write_fault { result ≡ WriteFault → WritingFailed D.counts D.steady desk.old desk.new }
     ensures counted { CountsFaults D.counts D.steady desk.old desk.new }
@@ -54,6 +57,8 @@ pub fn refuse_board<D: Desk>(
 ) -> Status
     ensures ends { (before : Seen) (board : Name) → Says before (D.seen desk.old) []
         → BoardFaultShows before board fault.now → BoardInputEnds before (D.seen desk.new) board result }
+    ensures inputs { KeepsInputs (D.seen desk.old) (D.seen desk.new) }
+    ensures outputs { KeepsOutputs (D.seen desk.old) (D.seen desk.new) }
     ensures read_fault { result ≡ ReadFault → fault.now ≡ NotRead Failed }
     ensures write_fault { result ≡ WriteFault → WritingFailed D.counts D.steady desk.old desk.new }
     ensures counted { CountsFaults D.counts D.steady desk.old desk.new }

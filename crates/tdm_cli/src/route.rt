@@ -1,14 +1,14 @@
 //! The command `route`.
 ghost use Rattle.std.specs.Prelude.{◌≡◌, [], IfOk, IfErr};
-ghost use Rattle.tdm_desk.specs.Seen.{Seen};
+ghost use Rattle.tdm_desk.specs.Seen.{Seen, output_is_open};
 ghost use Rattle.tdm_desk.specs.Counts.{CountsFaults, ReadingFailed, WritingFailed};
 ghost use Rattle.tdm_desk.specs.declared.slots.InSlot.TheVariants.{In0};
-ghost use Rattle.tdm_desk.specs.declared.slots.OutSlot.TheVariants.{Out0, Out1};
+ghost use Rattle.tdm_desk.specs.declared.slots.OutSlot.TheVariants.{Out0, Out1, Out2};
 ghost use Rattle.tdm_problem.specs.Value.{value_of};
 ghost use Rattle.bound_cert.specs.Bound.{bound_of};
 ghost use Rattle.tdm_cli.specs.Change.{Says};
 ghost use Rattle.tdm_cli.specs.Reports.{route_report};
-ghost use Rattle.tdm_cli.specs.Settled.{IsReadOut, KeepsInputs, IsFinished};
+ghost use Rattle.tdm_cli.specs.Settled.{KeepsInputs, IsFinished, IsSettled};
 ghost use Rattle.tdm_cli.specs.Baseline.{IsBaseline};
 ghost use Rattle.tdm_cli.specs.Certified.{IsBestCert};
 ghost use Rattle.tdm_cli.specs.Obstacle.{ObstacleShows};
@@ -70,6 +70,7 @@ fn route_nets<D: Desk>(
         → NetsEnds before (D.seen desk.new) problem.now solution.now cert.now result }
     ensures inputs { result ≡ Ok → KeepsInputs (D.seen desk.old) (D.seen desk.new) }
     ensures finished { result ≡ Ok → IsFinished Out0 (D.seen desk.new) × IsFinished Out1 (D.seen desk.new) }
+    ensures third { result ≡ Ok → output_is_open Out2 (D.seen desk.new) ≡ output_is_open Out2 (D.seen desk.old) }
     ensures write_fault { result ≡ WriteFault → WritingFailed D.counts D.steady desk.old desk.new }
     ensures counted { CountsFaults D.counts D.steady desk.old desk.new }
 {
@@ -95,9 +96,8 @@ pub fn route<D: Desk>(
     solution: &str,
     cert: &str,
 ) -> Status
-    ensures read { result ≡ Ok → IsReadOut In0 (D.seen desk.new) }
-    ensures finished { result ≡ Ok → IsFinished Out0 (D.seen desk.new) × IsFinished Out1 (D.seen desk.new) }
     ensures ends { RouteEnds (D.seen desk.old) (D.seen desk.new) board.now solution.now cert.now result }
+    ensures settled { result ≡ Ok → IsSettled (D.seen desk.old) (D.seen desk.new) }
     ensures read_fault { result ≡ ReadFault →
         ReadingFailed D.counts D.steady In0 desk.old desk.new }
     ensures write_fault { result ≡ WriteFault → WritingFailed D.counts D.steady desk.old desk.new }

@@ -34,6 +34,7 @@ pub fn conclude_with<D: Desk>(
     ensures answer { IfErr report (λ _. result ≡ OutOfMemory) }
     ensures same { IfErr report (λ _. D.seen desk.new ≡ D.seen desk.old) }
     ensures inputs { KeepsInputs (D.seen desk.old) (D.seen desk.new) }
+    ensures outputs { KeepsOutputs (D.seen desk.old) (D.seen desk.new) }
     ensures counted { CountsFaults D.counts D.steady desk.old desk.new }
 {
     match report {

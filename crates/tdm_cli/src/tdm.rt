@@ -9,8 +9,7 @@ ghost use Rattle.solution_eval.specs.declared.judgement.Verdict.TheVariants.{Leg
 ghost use Rattle.solution_eval.specs.Verdict.{SaysLegal};
 ghost use Rattle.tdm_cli.specs.Words.{IsRoute, IsEval, IsCheck, IsCommand};
 ghost use Rattle.tdm_cli.specs.Saying.{ReportsReadFault};
-ghost use Rattle.tdm_cli.specs.Settled.{IsReadOut, IsFinished};
-ghost use Rattle.tdm_desk.specs.declared.slots.OutSlot.TheVariants.{Out0, Out1};
+ghost use Rattle.tdm_cli.specs.Settled.{IsSettled, HasReadBoth};
 ghost use Rattle.tdm_cli.specs.Ends.{UsageEnds, RouteEnds};
 ghost use Rattle.tdm_cli.specs.EvalEnds.{EvalEnds};
 ghost use Rattle.tdm_cli.specs.CheckEnds.{CheckEnds};
@@ -38,13 +37,13 @@ fn run_words<D: Desk>(alloc: Global, desk: &mut D, words: &[String]) -> Status
     ensures eval { (board solution : Name) → IsEval (map string_bytes words.now) board solution
         → EvalEnds (D.seen desk.old) (D.seen desk.new) board solution result }
     ensures settled { (board solution cert : Name) → IsRoute (map string_bytes words.now) board solution cert
-        → result ≡ Ok → IsReadOut In0 (D.seen desk.new) × IsFinished Out0 (D.seen desk.new) × IsFinished Out1 (D.seen desk.new) }
+        → result ≡ Ok → IsSettled (D.seen desk.old) (D.seen desk.new) }
     ensures check { (board cert : Name) → IsCheck (map string_bytes words.now) board cert
         → CheckEnds (D.seen desk.old) (D.seen desk.new) board cert result }
     ensures eval_read { (board solution : Name) → IsEval (map string_bytes words.now) board solution
-        → result ≡ Ok → IsReadOut In0 (D.seen desk.new) × IsReadOut In1 (D.seen desk.new) }
+        → result ≡ Ok → HasReadBoth (D.seen desk.old) (D.seen desk.new) }
     ensures check_read { (board cert : Name) → IsCheck (map string_bytes words.now) board cert
-        → result ≡ Ok → IsReadOut In0 (D.seen desk.new) × IsReadOut In1 (D.seen desk.new) }
+        → result ≡ Ok → HasReadBoth (D.seen desk.old) (D.seen desk.new) }
     ensures usage { result ≡ Usage → ¬ IsCommand (map string_bytes words.now) }
     ensures read_fault { result ≡ ReadFault →
         ReportsReadFault D.counts D.steady D.seen desk.old desk.new }
@@ -108,7 +107,7 @@ pub fn tdm<D: Desk>(alloc: Global, desk: &mut D, words: &[String]) -> Status
         → files_of (D.seen desk.old) ≡ Some files → result ≡ Ok
         → IsRouted files board solution cert (D.seen desk.old) (D.seen desk.new) }
     ensures settled { (board solution cert : Name) → IsRoute (map string_bytes words.now) board solution cert
-        → result ≡ Ok → IsReadOut In0 (D.seen desk.new) × IsFinished Out0 (D.seen desk.new) × IsFinished Out1 (D.seen desk.new) }
+        → result ≡ Ok → IsSettled (D.seen desk.old) (D.seen desk.new) }
 
     // The same of `eval`, which changes no file: Ok just where the solution is legal, and then its value is said, and
     // Illegal just where it is not, and then its first violation is said.
@@ -129,7 +128,7 @@ pub fn tdm<D: Desk>(alloc: Global, desk: &mut D, words: &[String]) -> Status
         → files_of (D.seen desk.old) ≡ Some files → result ≡ Illegal
         → (verdict : Verdict) × (SaysLegal verdict → ⊥) × IsJudged files board solution (D.seen desk.old) (D.seen desk.new) verdict }
     ensures eval_read { (board solution : Name) → IsEval (map string_bytes words.now) board solution
-        → result ≡ Ok → IsReadOut In0 (D.seen desk.new) × IsReadOut In1 (D.seen desk.new) }
+        → result ≡ Ok → HasReadBoth (D.seen desk.old) (D.seen desk.new) }
     ensures eval_kept { (board solution : Name) → IsEval (map string_bytes words.now) board solution
         → files_of (D.seen desk.new) ≡ files_of (D.seen desk.old) }
 
@@ -152,7 +151,7 @@ pub fn tdm<D: Desk>(alloc: Global, desk: &mut D, words: &[String]) -> Status
         → files_of (D.seen desk.old) ≡ Some files → result ≡ CertRejected
         → IsRejected files board cert (D.seen desk.old) (D.seen desk.new) }
     ensures check_read { (board cert : Name) → IsCheck (map string_bytes words.now) board cert
-        → result ≡ Ok → IsReadOut In0 (D.seen desk.new) × IsReadOut In1 (D.seen desk.new) }
+        → result ≡ Ok → HasReadBoth (D.seen desk.old) (D.seen desk.new) }
     ensures check_kept { (board cert : Name) → IsCheck (map string_bytes words.now) board cert
         → files_of (D.seen desk.new) ≡ files_of (D.seen desk.old) }
 

@@ -1,8 +1,9 @@
 //! Writing the outputs, and the report behind them.
 ghost use Rattle.std.specs.Prelude.{◌≡◌, [], OnOk, OnErr, IsErrOf};
 ghost use Rattle.tdm_desk.specs.Files.{with_file};
+ghost use Rattle.tdm_desk.specs.Seen.{output_is_open};
 ghost use Rattle.tdm_desk.specs.Counts.{CountsFaults, WritingFailed};
-ghost use Rattle.tdm_desk.specs.declared.slots.OutSlot.TheVariants.{Out0, Out1};
+ghost use Rattle.tdm_desk.specs.declared.slots.OutSlot.TheVariants.{Out0, Out1, Out2};
 ghost use Rattle.solution_text.specs.Text.{solution_text};
 ghost use Rattle.bound_cert.specs.CertText.{cert_text};
 ghost use Rattle.tdm_cli.specs.Change.{Changes};
@@ -31,6 +32,7 @@ fn write_solution_file<D: Desk>(
         (solution_text solution.now)) }
     ensures inputs { KeepsInputs (D.seen desk.old) (D.seen desk.new) }
     ensures finished { OnOk result (IsFinished Out0 (D.seen desk.new)) }
+    ensures others { KeepsOtherOutputs Out0 (D.seen desk.old) (D.seen desk.new) }
     ensures failed { IsErrOf result DeskFault.Failed →
         WritingFailed D.counts D.steady desk.old desk.new }
     ensures counted { CountsFaults D.counts D.steady desk.old desk.new }
@@ -83,6 +85,7 @@ fn write_files<D: Desk>(
         first.now (solution_text solution.now) second.now (cert_text cert.now)) }
     ensures inputs { KeepsInputs (D.seen desk.old) (D.seen desk.new) }
     ensures finished { OnOk result (IsFinished Out0 (D.seen desk.new) × IsFinished Out1 (D.seen desk.new)) }
+    ensures third { OnOk result (output_is_open Out2 (D.seen desk.new) ≡ output_is_open Out2 (D.seen desk.old)) }
     ensures failed { IsErrOf result DeskFault.Failed →
         WritingFailed D.counts D.steady desk.old desk.new }
     ensures counted { CountsFaults D.counts D.steady desk.old desk.new }
@@ -109,6 +112,7 @@ pub fn deliver<D: Desk>(
         second.now (cert_text cert.now) report.now result }
     ensures inputs { KeepsInputs (D.seen desk.old) (D.seen desk.new) }
     ensures finished { result ≡ Ok → IsFinished Out0 (D.seen desk.new) × IsFinished Out1 (D.seen desk.new) }
+    ensures third { result ≡ Ok → output_is_open Out2 (D.seen desk.new) ≡ output_is_open Out2 (D.seen desk.old) }
     ensures write_fault { result ≡ WriteFault → WritingFailed D.counts D.steady desk.old desk.new }
     ensures counted { CountsFaults D.counts D.steady desk.old desk.new }
 {

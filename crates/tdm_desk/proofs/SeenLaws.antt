@@ -107,6 +107,10 @@ pub rest-opened_other : (slot other : InSlot) (name : Name) (s : Seen) → (inpu
 unfolding rest_of opened
 rest-opened_other slot other name s apart = map-map _ _ _ s.told (λ t. at-put_other (input_place other) (input_place slot) _ t.rests apart)
 
+pub rest-input_closed_other : (slot other : InSlot) (s : Seen) → (input_place other ≡ input_place slot → ⊥) → rest_of slot (input_closed other s) ≡ rest_of slot s
+unfolding rest_of input_closed
+rest-input_closed_other slot other s apart = map-map _ _ _ s.told (λ t. at-put_other (input_place other) (input_place slot) _ t.rests apart)
+
 pub rest-taken_other : (slot other : InSlot) (count : ℕ) (s : Seen) → (input_place other ≡ input_place slot → ⊥) → rest_of slot (taken other count s) ≡ rest_of slot s
 unfolding rest_of taken
 rest-taken_other slot other count s apart = map-map _ _ _ s.told (λ t. at-put_other (input_place other) (input_place slot) _ t.rests apart)
@@ -138,6 +142,10 @@ input_is_open-opened slot name s = at-put (input_place slot) true s.inputs
 pub input_is_open-opened_other : (slot other : InSlot) (name : Name) (s : Seen) → (input_place other ≡ input_place slot → ⊥) → input_is_open slot (opened other name s) ≡ input_is_open slot s
 unfolding input_is_open opened
 input_is_open-opened_other slot other name s apart = at-put_other (input_place other) (input_place slot) true s.inputs apart
+
+pub input_is_open-input_closed_other : (slot other : InSlot) (s : Seen) → (input_place other ≡ input_place slot → ⊥) → input_is_open slot (input_closed other s) ≡ input_is_open slot s
+unfolding input_is_open input_closed
+input_is_open-input_closed_other slot other s apart = at-put_other (input_place other) (input_place slot) false s.inputs apart
 
 pub input_is_open-created : (slot : InSlot) (out : OutSlot) (name : Name) (s : Seen) → input_is_open slot (created out name s) ≡ input_is_open slot s
 unfolding input_is_open created
@@ -175,6 +183,19 @@ output_is_open-closed_other slot other s apart = at-put_other (output_place othe
 pub output_is_open-output_closed : (slot : OutSlot) (s : Seen) → output_is_open slot (output_closed slot s) ≡ false
 unfolding output_is_open output_closed
 output_is_open-output_closed slot s = at-put (output_place slot) false s.outputs
+
+-- no input opens or closes an output
+pub output_is_open-opened : (slot : OutSlot) (input : InSlot) (name : Name) (s : Seen) → output_is_open slot (opened input name s) ≡ output_is_open slot s
+unfolding output_is_open opened
+output_is_open-opened slot input name s = refl
+
+pub output_is_open-input_closed : (slot : OutSlot) (input : InSlot) (s : Seen) → output_is_open slot (input_closed input s) ≡ output_is_open slot s
+unfolding output_is_open input_closed
+output_is_open-input_closed slot input s = refl
+
+pub output_is_open-taken : (slot : OutSlot) (input : InSlot) (count : ℕ) (s : Seen) → output_is_open slot (taken input count s) ≡ output_is_open slot s
+unfolding output_is_open taken
+output_is_open-taken slot input count s = refl
 
 pub output_is_open-written : (slot other : OutSlot) (bytes : Bytes) (s : Seen) → output_is_open slot (written other bytes s) ≡ output_is_open slot s
 unfolding output_is_open written

@@ -3,6 +3,7 @@ use Rattle.std.specs.Prelude.{Err}
 use Rattle.bound_cert.specs.CertReading.{cert_of}
 use Rattle.tdm_cli.specs.CheckEnds.{CertInputEnds}
 use Rattle.tdm_cli.proofs.ChangeLaws.{changes_then_says}
+use Rattle.tdm_cli.proofs.SettledLaws.{touches-then}
 use Rattle.tdm_cli.proofs.InputLaws.{fault-before}
 use Rattle.tdm_cli.proofs.check.check_cert.Goals as goal
 
@@ -15,3 +16,6 @@ returns-in-Err-clause-read g c = λ ok. absurd (subst (CertInputEnds (g.D.Desk.s
 
 pub returns-in-Err-clause-others : goal.returns-in-Err-clause-others
 returns-in-Err-clause-others g c = λ ok. absurd (subst (CertInputEnds (g.D.Desk.seen c.args.desk.now) (g.D.Desk.seen c.refuse_cert.new.desk) c.args.problem.now c.args.cert.now) ok (c.refuse_cert.ensures.ends (g.D.Desk.seen c.args.desk.now) c.args.problem.now c.args.cert.now c.in-Err.ensures.silent c.in-Err.ensures.fault))
+
+pub returns-in-Ok-clause-others : goal.returns-in-Ok-clause-others
+returns-in-Ok-clause-others g c = λ _. touches-then _ _ _ _ c.in-Ok.ensures.others c.answer_cert.ensures.inputs c.answer_cert.ensures.outputs

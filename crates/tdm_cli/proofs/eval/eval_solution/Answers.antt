@@ -3,6 +3,7 @@ use Rattle.std.specs.Prelude.{Err}
 use Rattle.solution_text.specs.Reading.{solution_of}
 use Rattle.tdm_cli.specs.EvalEnds.{SolutionInputEnds}
 use Rattle.tdm_cli.proofs.ChangeLaws.{changes_then_says}
+use Rattle.tdm_cli.proofs.SettledLaws.{touches-then}
 use Rattle.tdm_cli.proofs.InputLaws.{fault-before}
 use Rattle.tdm_cli.proofs.eval.eval_solution.Goals as goal
 
@@ -15,3 +16,6 @@ returns-in-Err-clause-read g c = λ ok. absurd (subst (SolutionInputEnds (g.D.De
 
 pub returns-in-Err-clause-others : goal.returns-in-Err-clause-others
 returns-in-Err-clause-others g c = λ ok. absurd (subst (SolutionInputEnds (g.D.Desk.seen c.args.desk.now) (g.D.Desk.seen c.refuse_solution.new.desk) c.args.problem.now c.args.solution.now) ok (c.refuse_solution.ensures.ends (g.D.Desk.seen c.args.desk.now) c.args.problem.now c.args.solution.now c.in-Err.ensures.silent c.in-Err.ensures.fault))
+
+pub returns-in-Ok-clause-others : goal.returns-in-Ok-clause-others
+returns-in-Ok-clause-others g c = λ _. touches-then _ _ _ _ c.in-Ok.ensures.others c.judge_solution.ensures.inputs c.judge_solution.ensures.outputs

@@ -25,3 +25,6 @@ returns-in-Err-clause-inputs g c = λ ok. absurd (subst (ObstacleEnds (g.D.Desk.
 
 pub returns-in-Err-clause-finished : goal.returns-in-Err-clause-finished
 returns-in-Err-clause-finished g c = λ ok. absurd (subst (ObstacleEnds (g.D.Desk.seen c.args.desk.now) (g.D.Desk.seen c.refuse_nets.new.desk) c.args.problem.now) ok (c.refuse_nets.ensures.ends (g.D.Desk.seen c.args.desk.now) c.args.problem.now (says_nothing _ _ refl refl) c.in-Err.ensures.obstacle))
+
+pub returns-in-Err-clause-third : goal.returns-in-Err-clause-third
+returns-in-Err-clause-third g c = λ ok. absurd (subst (ObstacleEnds (g.D.Desk.seen c.args.desk.now) (g.D.Desk.seen c.refuse_nets.new.desk) c.args.problem.now) ok (c.refuse_nets.ensures.ends (g.D.Desk.seen c.args.desk.now) c.args.problem.now (says_nothing _ _ refl refl) c.in-Err.ensures.obstacle))

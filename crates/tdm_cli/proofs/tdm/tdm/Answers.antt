@@ -25,8 +25,7 @@ returns-clause-complete g c = λ board solution cert files is told calls no_read
 
 pub returns-clause-written : goal.returns-clause-written
 returns-clause-written g c = λ board solution cert files is told ok.
-    let settled = c.run_words.ensures.settled board solution cert is ok in
-    route-written _ _ board solution cert files told (subst (RouteEnds (g.D.Desk.seen c.args.desk.now) (g.D.Desk.seen c.run_words.new.desk) board solution cert) ok (c.run_words.ensures.route board solution cert is)) settled.0 (settled.1, settled.2)
+    route-written _ _ board solution cert files told (subst (RouteEnds (g.D.Desk.seen c.args.desk.now) (g.D.Desk.seen c.run_words.new.desk) board solution cert) ok (c.run_words.ensures.route board solution cert is)) (c.run_words.ensures.settled board solution cert is ok)
 
 pub returns-clause-eval_exact : goal.returns-clause-eval_exact
 returns-clause-eval_exact g c = λ board solution files is told called calls.
