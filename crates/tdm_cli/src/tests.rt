@@ -3,6 +3,18 @@ use std::alloc::{AllocError, Global};
 use std::test::Fail;
 use tdm_desk::MemoryDesk;
 
+/// One net on one wire.
+const ONE: &str = "2 1 1 1\n0 1\n0 1\n0\n";
+
+/// Three nets of one group on one wire.
+const THREE: &str = "2 1 3 1\n0 1\n0 1\n0 1\n0 1\n0 1 2\n";
+
+/// One net between three ends of a star.
+const STAR: &str = "4 3 1 1\n0 1\n0 2\n0 3\n1 2 3\n0\n";
+
+/// Three nets, of which the first and the last have FPGAs that no wires join, and no group.
+const SPLIT: &str = "4 2 3 0\n0 1\n2 3\n0 2\n0 1\n3 1\n";
+
 /// Whether routing the board `b` ends so and says this. At Ok it writes this solution and a certificate, of which `eval`
 /// and `check` then say the same value and bound; else it writes no file at all.
 fn ends(
@@ -58,15 +70,7 @@ fn run(alloc: Global, desk: &mut MemoryDesk, words: &[&str]) -> Result<Status, A
 #[test]
 fn routes_the_worked_boards(rt: HostRuntime) -> Result<(), Fail> {
     let alloc = rt.alloc();
-    assert!(rt;
-        ends(
-            alloc,
-            "2 1 1 1\n0 1\n0 1\n0\n",
-            Status::Ok,
-            "value 2\nbound 2\n",
-            "1\n0 2\n"
-        )?
-    );
+    assert!(rt; ends(alloc, ONE, Status::Ok, "value 2\nbound 2\n", "1\n0 2\n")?);
     assert!(rt;
         ends(
             alloc,
@@ -79,7 +83,7 @@ fn routes_the_worked_boards(rt: HostRuntime) -> Result<(), Fail> {
     assert!(rt;
         ends(
             alloc,
-            "2 1 3 1\n0 1\n0 1\n0 1\n0 1\n0 1 2\n",
+            THREE,
             Status::Ok,
             "value 12\nbound 10\n",
             "1\n0 4\n1\n0 4\n1\n0 4\n"
@@ -106,7 +110,7 @@ fn routes_the_worked_boards(rt: HostRuntime) -> Result<(), Fail> {
     assert!(rt;
         ends(
             alloc,
-            "4 3 1 1\n0 1\n0 2\n0 3\n1 2 3\n0\n",
+            STAR,
             Status::Ok,
             "value 6\nbound 4\n",
             "3\n0 2\n1 2\n2 2\n"
@@ -116,7 +120,7 @@ fn routes_the_worked_boards(rt: HostRuntime) -> Result<(), Fail> {
 }
 
 #[test]
-fn routes_boards_at_the_edge_of_their_text(rt: HostRuntime) -> Result<(), Fail> {
+fn empty_boards_repeats_and_odd_layouts_are_routed(rt: HostRuntime) -> Result<(), Fail> {
     let alloc = rt.alloc();
     assert!(rt; ends(alloc, "0 0 0 0\n", Status::Ok, "value 0\nbound 0\n", "")?);
     assert!(rt;
@@ -213,22 +217,20 @@ fn judges_the_worked_solutions(rt: HostRuntime) -> Result<(), Fail> {
     let four = "2 1 4 1\n0 1\n0 1\n0 1\n0 1\n0 1\n0 1 2 3\n";
     let exactly_one = "1\n0 2\n1\n0 6\n1\n0 6\n1\n0 6\n";
     assert!(rt; judges(alloc, four, exactly_one, Status::Ok, "value 20\n")?);
-    let three = "2 1 3 1\n0 1\n0 1\n0 1\n0 1\n0 1 2\n";
     let barely_over = "1\n0 2\n1\n0 2\n1\n0 4294967294\n";
     assert!(rt;
         judges(
             alloc,
-            three,
+            THREE,
             barely_over,
             Status::Illegal,
             "illegal wire 0 overfull\n"
         )?
     );
-    let one = "2 1 1 1\n0 1\n0 1\n0\n";
     assert!(rt;
         judges(
             alloc,
-            one,
+            ONE,
             "1\n0 3\n",
             Status::Illegal,
             "illegal net 0 wire 0 ratio 3\n"
@@ -237,7 +239,7 @@ fn judges_the_worked_solutions(rt: HostRuntime) -> Result<(), Fail> {
     assert!(rt;
         judges(
             alloc,
-            one,
+            ONE,
             "1\n0 0\n",
             Status::Illegal,
             "illegal net 0 wire 0 ratio 0\n"
@@ -246,7 +248,7 @@ fn judges_the_worked_solutions(rt: HostRuntime) -> Result<(), Fail> {
     assert!(rt;
         judges(
             alloc,
-            one,
+            ONE,
             "2\n0 2\n0 2\n",
             Status::SolutionRefused,
             "solution refused RepeatedWire line 3\n"
@@ -255,25 +257,26 @@ fn judges_the_worked_solutions(rt: HostRuntime) -> Result<(), Fail> {
     assert!(rt;
         judges(
             alloc,
-            one,
+            ONE,
             "0\n",
             Status::Illegal,
             "illegal net 0 not joined\n"
         )?
     );
+    let not_joined = "illegal net 0 not joined\n";
+    assert!(rt; judges(alloc, SPLIT, "0\n0\n0\n", Status::Illegal, not_joined)?);
     let parallel = "2 2 1 1\n0 1\n0 1\n0 1\n0\n";
     assert!(rt; judges(alloc, parallel, "2\n1 2\n0 2\n", Status::Ok, "value 4\n")?);
     Ok(())
 }
 
 #[test]
-fn judges_only_what_it_reads(rt: HostRuntime) -> Result<(), Fail> {
+fn a_missing_or_refused_input_is_not_judged(rt: HostRuntime) -> Result<(), Fail> {
     let alloc = rt.alloc();
-    let one = "2 1 1 1\n0 1\n0 1\n0\n";
     assert!(rt;
         judges(
             alloc,
-            one,
+            ONE,
             "1\n",
             Status::SolutionRefused,
             "solution refused MissingLine line 2\n"
@@ -292,7 +295,7 @@ fn judges_only_what_it_reads(rt: HostRuntime) -> Result<(), Fail> {
     let no_board = run(alloc, &mut desk, &["eval", "b", "s"])?;
     assert!(rt; no_board == Status::NoInput);
     assert!(rt; desk.report() == "no input 1\n".as_bytes());
-    desk.put_file("b", one.as_bytes())?;
+    desk.put_file("b", ONE.as_bytes())?;
     let no_solution = run(alloc, &mut desk, &["eval", "b", "s"])?;
     assert!(rt; no_solution == Status::NoInput);
     assert!(rt; desk.report() == "no input 1\nno input 2\n".as_bytes());
@@ -300,15 +303,6 @@ fn judges_only_what_it_reads(rt: HostRuntime) -> Result<(), Fail> {
     assert!(rt; nameless == Status::Usage);
     Ok(())
 }
-
-/// One net on one wire.
-const ONE: &str = "2 1 1 1\n0 1\n0 1\n0\n";
-
-/// Three nets of one group on one wire.
-const THREE: &str = "2 1 3 1\n0 1\n0 1\n0 1\n0 1\n0 1 2\n";
-
-/// One net between three ends of a star.
-const STAR: &str = "4 3 1 1\n0 1\n0 2\n0 3\n1 2 3\n0\n";
 
 /// Whether this certificate text for the board is accepted, and this is said.
 fn accepts_cert(alloc: Global, board: &str, cert: &str, said: &str) -> Result<bool, AllocError> {
@@ -324,6 +318,7 @@ fn says_the_bounds_of_worked_certificates(rt: HostRuntime) -> Result<(), Fail> {
     assert!(rt; accepts_cert(alloc, THREE, "1 1 0 1\n1\n3\n0 3\n0\n0\n0\n", "bound 0\n")?);
     assert!(rt; accepts_cert(alloc, STAR, "1 2 1 1\n1\n1 0 2 2\n1\n", "bound 4\n")?);
     assert!(rt; accepts_cert(alloc, ONE, units, "bound 2\n")?);
+    assert!(rt; accepts_cert(alloc, SPLIT, "1 2 1 0\n0\n0\n0\n", "bound 0\n")?);
     Ok(())
 }
 
@@ -383,7 +378,7 @@ fn refuses_certificates_by_kind_and_line(rt: HostRuntime) -> Result<(), Fail> {
 }
 
 #[test]
-fn checks_only_what_it_reads(rt: HostRuntime) -> Result<(), Fail> {
+fn a_missing_or_refused_input_is_not_checked(rt: HostRuntime) -> Result<(), Fail> {
     let alloc = rt.alloc();
     let refused = "board refused WrongCount line 1\n";
     assert!(rt; checks(alloc, "2 1 1", "x", Status::BoardRefused, refused)?);
@@ -391,7 +386,7 @@ fn checks_only_what_it_reads(rt: HostRuntime) -> Result<(), Fail> {
     let no_board = run(alloc, &mut desk, &["check", "b", "c"])?;
     assert!(rt; no_board == Status::NoInput);
     assert!(rt; desk.report() == "no input 1\n".as_bytes());
-    desk.put_file("b", "2 1 1 1\n0 1\n0 1\n0\n".as_bytes())?;
+    desk.put_file("b", ONE.as_bytes())?;
     let no_cert = run(alloc, &mut desk, &["check", "b", "c"])?;
     assert!(rt; no_cert == Status::NoInput);
     assert!(rt; desk.report() == "no input 1\nno input 2\n".as_bytes());
@@ -452,11 +447,10 @@ fn refuses_boards_by_kind_and_line(rt: HostRuntime) -> Result<(), Fail> {
 }
 
 #[test]
-fn refuses_and_says_why(rt: HostRuntime) -> Result<(), Fail> {
+fn unconnectable_nets_and_a_missing_board_are_reported(rt: HostRuntime) -> Result<(), Fail> {
     let alloc = rt.alloc();
-    let split = "4 2 3 0\n0 1\n2 3\n0 2\n0 1\n3 1\n";
     let said = "unconnectable net 0\nunconnectable net 2\n";
-    assert!(rt; ends(alloc, split, Status::Unconnectable, said, "")?);
+    assert!(rt; ends(alloc, SPLIT, Status::Unconnectable, said, "")?);
     let mut desk = MemoryDesk::new(alloc);
     let missing = run(alloc, &mut desk, &["route", "b", "s", "c"])?;
     assert!(rt; missing == Status::NoInput);
@@ -472,7 +466,7 @@ fn refuses_words(alloc: Global, words: &[&str]) -> Result<bool, AllocError> {
 }
 
 #[test]
-fn knows_its_words_and_no_others(rt: HostRuntime) -> Result<(), Fail> {
+fn other_words_are_refused(rt: HostRuntime) -> Result<(), Fail> {
     let alloc = rt.alloc();
     assert!(rt; refuses_words(alloc, &["route", "b"])?);
     assert!(rt; refuses_words(alloc, &["route", "b", "s"])?);
@@ -485,10 +479,10 @@ fn knows_its_words_and_no_others(rt: HostRuntime) -> Result<(), Fail> {
 }
 
 #[test]
-fn replaces_a_board_that_was_read(rt: HostRuntime) -> Result<(), Fail> {
+fn an_output_may_replace_the_board_that_was_read(rt: HostRuntime) -> Result<(), Fail> {
     let alloc = rt.alloc();
     let mut desk = MemoryDesk::new(alloc);
-    desk.put_file("b", "2 1 1 1\n0 1\n0 1\n0\n".as_bytes())?;
+    desk.put_file("b", ONE.as_bytes())?;
     let answer = run(alloc, &mut desk, &["route", "b", "b", "c"])?;
     assert!(rt; answer == Status::Ok);
     assert!(rt; desk.report() == "value 2\nbound 2\n".as_bytes());
