@@ -1,3 +1,4 @@
+pub mod EqualRatios
 pub mod UniformLaws
 pub mod UniformIsLegal
 pub mod UniformSteps

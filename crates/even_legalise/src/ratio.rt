@@ -2,8 +2,9 @@
 ghost use Rattle.std.specs.Prelude.{◌≡◌, ◌^◌, ◌≤◌};
 ghost use Rattle.even_legalise.specs.Uniform.{uniform_ratio};
 
-/// The least even ratio with which `k` nets fit the lanes of a wire if they all have it:
-/// twice half the nets of a lane, rounded up. There are 1 to 2^20 nets and 1 to 1,024 lanes.
+/// The least even ratio with which `k` nets fit the lanes of a wire if they all have it (see
+/// [`uniform_is_least`](crate::uniform_is_least)): twice half the nets of a lane, each division rounded up.
+/// There are 1 to 2^20 nets and 1 to 1,024 lanes.
 pub fn uniform(k: u32, lanes: u64) -> u32
     requires some { 1 ≤ k }
     requires few { k ≤ 2 ^ 20 }
