@@ -12,12 +12,11 @@ use Rattle.tdm_lines.specs.Lines.{Line, lines, line_after, pieces}
 use Rattle.tdm_problem.specs.Board.{Board, IsBoard, IsWireOf, IsRowBelow}
 use Rattle.tdm_problem.specs.declared.limits.TheConstants.{MAX_FPGAS, MAX_WIRES, MAX_NETS, MAX_GROUPS, MAX_LISTED_FPGAS, MAX_LISTED_NETS}
 use Rattle.tdm_problem.proofs.Repeats.{IsRowBelow-without_repeats, length-without_repeats}
-use Rattle.contest_input.specs.declared.TheConstants.{MAX_BOARD_NUMBER}
 use Rattle.contest_input.specs.declared.fault.BoardRefusal.{BoardRefusal}
 use Rattle.contest_input.specs.declared.header.Sizes.{Sizes}
 use Rattle.contest_input.specs.declared.kind.BoardKind.{BoardKind}
 use Rattle.contest_input.specs.Faults.{tokens_first, sizes_of, wire_of, wire_fault, net_fault, group_fault}
-use Rattle.contest_input.specs.BoardText.{refused_at, judged, first_refusal, extra_refusal, wire_row, listed_row, unless, board_of_lines, board_of}
+use Rattle.contest_input.specs.BoardText.{largest_number, refused_at, judged, first_refusal, extra_refusal, wire_row, listed_row, unless, board_of_lines, board_of}
 use Rattle.contest_input.specs.Sections.{HaveNumbers, or_else, section_refusal}
 use Rattle.contest_input.proofs.LineLemmas.{HaveNumbers-lines_from}
 use Rattle.contest_input.proofs.WholeText.{of_header, after_header, bare, by_sections}
@@ -199,4 +198,4 @@ too-long false refusal rest board ok = ok
 
 -- the board that a text describes keeps to the limits, and all its numbers name something
 pub accepted-board : (text : List ℕ) (board : Board) → board_of text ≡ Ok board → IsBoard board
-accepted-board text board ok = accepted-lines (line_after text) (lines MAX_BOARD_NUMBER text) board (HaveNumbers-lines_from MAX_BOARD_NUMBER 1 (pieces text)) (too-long _ _ _ board ok)
+accepted-board text board ok = accepted-lines (line_after text) (lines largest_number text) board (HaveNumbers-lines_from largest_number 1 (pieces text)) (too-long _ _ _ board ok)

@@ -1,9 +1,8 @@
 -- What a board text says: a board, or the first thing that is wrong with it.
-use Rattle.std.specs.Prelude.{◌≡◌, ℕ, ◌+◌, nat_lt, if◌then◌else◌, List, [], ◌∷◌, ◌++◌, map, length, take, drop, Option, None, Some, Result, Ok, Err}
+use Rattle.std.specs.Prelude.{◌≡◌, ℕ, ◌+◌, ◌-◌, ◌^◌, nat_lt, if◌then◌else◌, List, [], ◌∷◌, ◌++◌, map, length, take, drop, Option, None, Some, Result, Ok, Err}
 use Rattle.tdm_lines.specs.Lines.{Line, lines, line_after}
 use Rattle.tdm_problem.specs.Board.{Board, without_repeats}
 use Rattle.tdm_problem.specs.declared.wire.Wire.{Wire}
-use Rattle.contest_input.specs.declared.TheConstants.{MAX_BOARD_BYTES, MAX_BOARD_NUMBER}
 use Rattle.contest_input.specs.declared.fault.BoardFault.{BoardFault}
 use Rattle.contest_input.specs.declared.fault.BoardFault.TheVariants.{Refused, NoMemory}
 use Rattle.contest_input.specs.declared.fault.BoardRefusal.{BoardRefusal}
@@ -11,6 +10,14 @@ use Rattle.contest_input.specs.declared.header.Sizes.{Sizes}
 use Rattle.contest_input.specs.declared.kind.BoardKind.{BoardKind}
 use Rattle.contest_input.specs.declared.kind.BoardKind.TheVariants.{NoHeader, MissingLine, ExtraLine, TooLong}
 use Rattle.contest_input.specs.Faults.{sizes_of, wire_of, tokens_first, header_fault, wire_fault, net_fault, group_fault}
+
+-- the largest number of a board text
+abbrev pub largest_number : ℕ
+largest_number = 2 ^ 32 - 1
+
+-- the most bytes of a board text
+abbrev pub most_bytes : ℕ
+most_bytes = 2 ^ 28
 
 -- the lines below the header, by what they are for
 pub record Body : Type 0 where
@@ -96,9 +103,9 @@ board_of_lines end (header ∷ below) =
 -- the board that the text describes, or why it is refused
 abbrev pub board_of : List ℕ → Result Board BoardRefusal
 board_of text =
-    if nat_lt MAX_BOARD_BYTES (length text)
+    if nat_lt most_bytes (length text)
     then Err (record { kind = TooLong; line = 0 })
-    else board_of_lines (line_after text) (lines MAX_BOARD_NUMBER text)
+    else board_of_lines (line_after text) (lines largest_number text)
 
 -- the fault is the refusal that is said, or the want of memory, which says nothing of the text
 abbrev pub IsRefusalOf : Result Board BoardRefusal → BoardFault → Type 0

@@ -32,10 +32,14 @@ fn the_first_fault_decides()
     ensures blank { board_of (codes " \n\t\n") ≡ Err (record { kind = NoHeader; line = 3 }) }
     ensures bad_number { board_of (codes "2 1 1 1\n0 x\n") ≡ Err (record { kind = BadNumber; line = 2 }) }
     ensures number_too_large { board_of (codes "4294967296 0 0 0\n") ≡ Err (record { kind = NumberTooLarge; line = 1 }) }
+    ensures largest_number { board_of (codes "4294967295 0 0 0\n") ≡ Err (record { kind = CountLimit; line = 1 }) }
+    ensures leading_zeros { board_of (codes "00004294967295 0 0 0\n") ≡ Err (record { kind = CountLimit; line = 1 }) }
     ensures wrong_count { board_of (codes "2 1 1\n") ≡ Err (record { kind = WrongCount; line = 1 }) }
     ensures count_limit { board_of (codes "4097 0 0 0\n") ≡ Err (record { kind = CountLimit; line = 1 }) }
     ensures unknown_fpga { board_of (codes "2 1 0 0\n2 2\n") ≡ Err (record { kind = UnknownFpga; line = 2 }) }
     ensures self_loop { board_of (codes "3 1 0 0\n2 2\n") ≡ Err (record { kind = SelfLoop; line = 2 }) }
+    ensures largest_fpga { board_of (codes "2 1 0 0\n0 4294967295\n") ≡ Err (record { kind = UnknownFpga; line = 2 }) }
+    ensures larger_fpga { board_of (codes "2 1 0 0\n0 4294967296\n") ≡ Err (record { kind = NumberTooLarge; line = 2 }) }
     ensures unknown_net { board_of (codes "2 1 1 1\n0 1\n0 1\n1\n") ≡ Err (record { kind = UnknownNet; line = 4 }) }
     ensures missing_line { board_of (codes "2 1 1 1\n0 1\n0 1\n") ≡ Err (record { kind = MissingLine; line = 4 }) }
     ensures extra_line { board_of (codes "2 1 1 1\n0 1\n0 1\n0\n0\n") ≡ Err (record { kind = ExtraLine; line = 5 }) }

@@ -1,13 +1,11 @@
 //! What holds of board texts by their definition alone.
-ghost use Rattle.std.specs.Prelude.{◌≡◌, ◌+◌, ℕ, List, take, Ok};
+ghost use Rattle.std.specs.Prelude.{◌≡◌, ◌+◌, ◌^◌, ℕ, List, take, Ok};
 ghost use Rattle.tdm_problem.specs.Board.{Board, IsBoard};
 ghost use Rattle.contest_input.specs.BoardText.{board_of};
 
-use crate::MAX_BOARD_BYTES;
-
 /// A text that is cut one byte past the longest says what the whole text says, so no more of it need be read.
 pub fn a_cut_text_says_the_same()
-    ensures { (text : List ℕ) → board_of (take (MAX_BOARD_BYTES + 1) text) ≡ board_of text }
+    ensures { (text : List ℕ) → board_of (take (2 ^ 28 + 1) text) ≡ board_of text }
 {}
 
 /// The board that a text describes keeps to the limits, and all its numbers name something.

@@ -1,5 +1,5 @@
 //! The lines of a board text, one at a time.
-ghost use Rattle.std.specs.Prelude.{◌≡◌, ◌<◌, ◌≤◌, ◌^◌, [], ◌∷◌, length, map, None, IfOk, OnOk, IfErr};
+ghost use Rattle.std.specs.Prelude.{◌≡◌, ◌-◌, ◌<◌, ◌≤◌, ◌^◌, [], ◌∷◌, length, map, None, IfOk, OnOk, IfErr};
 ghost use Rattle.tdm_lines.specs.Lines.{lines, line_after};
 ghost use Rattle.contest_input.specs.BoardText.{extra_refusal, first_refusal};
 ghost use Rattle.contest_input.specs.Sections.{next_refusal, IsFor};
@@ -35,7 +35,7 @@ impl<'a> Source<'a> {
     /// The text before its first line.
     pub(crate) fn new(alloc: Global, text: &'a [u8]) -> Source<'a>
         requires { length text.now ≤ 2 ^ 30 }
-        ensures { result ≡ record { lines = lines MAX_BOARD_NUMBER text.now; end = line_after text.now; numbers = [] } }
+        ensures { result ≡ record { lines = lines (2 ^ 32 - 1) text.now; end = line_after text.now; numbers = [] } }
     {
         Source {
             text,

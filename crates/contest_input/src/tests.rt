@@ -1,18 +1,20 @@
 //! Board texts that are read, and board texts that are refused.
-use crate::{BoardFault, BoardKind, BoardRefusal, MAX_BOARD_BYTES, read_board};
+use crate::{BoardFault, BoardKind, BoardRefusal, read_board};
 use std::alloc::Global;
 use std::process::Abort;
 use std::test::Fail;
 use tdm_problem::{Problem, ProblemDraft, Wire};
 
-// The smallest board on which a net uses a wire.
+/// The smallest board on which a net uses a wire.
 const PAIR: &[u8] = b"2 1 1 1\n0 1\n0 1\n0\n";
 
+/// Reads a text that has at most one byte more than the longest board text.
 fn read(rt: &impl Abort, alloc: Global, text: &[u8]) -> Result<Problem, BoardFault> {
-    assert!(rt; text.len() <= MAX_BOARD_BYTES + 1);
+    assert!(rt; text.len() <= 268_435_457);
     read_board(alloc, text)
 }
 
+/// The refusal of a text, if it is refused.
 fn refusal(rt: &impl Abort, alloc: Global, text: &[u8]) -> Option<BoardRefusal> {
     match read(rt, alloc, text) {
         Err(BoardFault::Refused(refusal)) => Some(refusal),
@@ -20,7 +22,7 @@ fn refusal(rt: &impl Abort, alloc: Global, text: &[u8]) -> Option<BoardRefusal> 
     }
 }
 
-// A board of two FPGAs with one wire between them, one net on both, and one group of that net.
+/// Checks that this is a board of two FPGAs with one wire between them, one net on both, and one group of that net.
 fn assert_pair(rt: &impl Abort, problem: &Problem) {
     assert_eq!(rt; problem.fpgas(), 2);
     assert_eq!(rt; problem.wires(), 1);
@@ -74,6 +76,7 @@ fn the_first_fault_is_told_with_its_line(rt: HostRuntime) {
     for (text, kind, line) in [
         (b"2 1 1 1\n0 1\n0 1\n".as_slice(), BoardKind::MissingLine, 4),
         (b"2 1 1 1\n0 1\n0 1\n0\n0\n", BoardKind::ExtraLine, 5),
+        (b"4294967295 0 0 0\n", BoardKind::CountLimit, 1),
         (b"4294967296 0 0 0\n", BoardKind::NumberTooLarge, 1),
         (b"3 1 0 0\n2 2\n", BoardKind::SelfLoop, 2),
         (b"2 1 0 0\n2 2\n", BoardKind::UnknownFpga, 2),
@@ -114,10 +117,10 @@ fn the_numbers_of_all_nets_are_limited(rt: HostRuntime) -> Result<(), Fail> {
 
 #[test]
 fn the_length_of_a_text_is_limited(rt: HostRuntime) -> Result<(), Fail> {
-    let text = vec![in rt.alloc(); b' '; MAX_BOARD_BYTES + 1]?;
+    let text = vec![in rt.alloc(); b' '; 268_435_457]?;
     for (length, kind, line) in [
-        (MAX_BOARD_BYTES, BoardKind::NoHeader, 1),
-        (MAX_BOARD_BYTES + 1, BoardKind::TooLong, 0),
+        (268_435_456, BoardKind::NoHeader, 1),
+        (268_435_457, BoardKind::TooLong, 0),
     ] {
         assert!(rt; length <= text.len());
         let wanted = BoardRefusal { kind, line };
