@@ -10,7 +10,6 @@ use Rattle.tdm_desk.specs.Seen.{Seen, opened, taken, input_is_open, rest_of}
 use Rattle.tdm_desk.proofs.SeenLaws.{input_is_open-opened, input_is_open-taken, rest-taken}
 use Rattle.tdm_problem.specs.Board.{Board}
 use Rattle.tdm_problem.specs.Routing.{Routing}
-use Rattle.contest_input.specs.declared.TheConstants.{MAX_BOARD_BYTES}
 use Rattle.contest_input.specs.BoardText.{board_of}
 use Rattle.solution_text.specs.Reading.{solution_of}
 use Rattle.bound_cert.specs.Certificate.{Cert}
@@ -34,11 +33,11 @@ all-taken slot limit name bytes before between after first is read short = recor
         some-same left (drop (limit + 1) rest) (same ∙ ap (option_map (drop (limit + 1))) e) ∙ drop_all (limit + 1) rest (omega (arith, whole))
 
 -- a text that says something is not too long
-pub board-within : (text : Bytes) (board : Board) → board_of text ≡ Ok board → length text ≤ MAX_BOARD_BYTES
-board-within text board says = ⊎_elim (λ above. absurd (too-long above)) (λ short. omega (arith, short)) (cases_lt MAX_BOARD_BYTES (length text))
+pub board-within : (text : Bytes) (board : Board) → board_of text ≡ Ok board → length text ≤ 2 ^ 28
+board-within text board says = ⊎_elim (λ above. absurd (too-long above)) (λ short. omega (arith, short)) (cases_lt (2 ^ 28) (length text))
   where
-    too-long : MAX_BOARD_BYTES < length text → ⊥
-    too-long above = let is = rw (lt-ltb MAX_BOARD_BYTES (length text) above) at says in cc
+    too-long : 2 ^ 28 < length text → ⊥
+    too-long above = let is = rw (lt-ltb (2 ^ 28) (length text) above) at says in cc
 
 pub solution-within : (board : Board) (text : Bytes) (routing : Routing) → solution_of board text ≡ Ok routing → length text ≤ 2 ^ 30
 solution-within board text routing says = ⊎_elim (λ above. absurd (too-long above)) (λ short. omega (arith, short)) (cases_lt (2 ^ 30) (length text))
