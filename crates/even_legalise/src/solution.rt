@@ -3,16 +3,14 @@ ghost use Rattle.std.specs.Prelude.{◌≡◌, ℕ, ◌*◌, ◌<◌, ◌≤◌,
 ghost use Rattle.tdm_problem.specs.declared.solution.WireUse.{WireUse};
 ghost use Rattle.tdm_problem.specs.Routing.{ratios_of, HasRisingWires};
 ghost use Rattle.tdm_problem.specs.Trees.{AreTreesFor};
+ghost use Rattle.tdm_problem.specs.declared.limits.TheConstants.{LANES};
 ghost use Rattle.tdm_problem.specs.Legal.{IsLegal};
 ghost use Rattle.even_legalise.specs.Uniform.{uniform_ratio, uniform_routing, JoinsEachNet, CountsNets};
 
 use crate::counts::nets_on_wires;
 use crate::ratio::uniform;
 use std::alloc::{AllocError, Global};
-use tdm_problem::{Problem, Solution, Trees, WireUse};
-
-/// How many lanes a wire has.
-const LANES: u64 = 1;
+use tdm_problem::{LANES, Problem, Solution, Trees, WireUse};
 
 /// The solution in which each net uses the wires of its tree, and all nets of a wire have the same ratio
 /// on it, the one of [`uniform`] for their number. The trees are for the problem, and each joins its net.

@@ -8,10 +8,7 @@ ghost use Rattle.solution_eval.specs.Counted.{items_at, CountsRatios};
 
 use recip_sum::Counts;
 use std::alloc::{AllocError, Global};
-use tdm_problem::{Problem, Solution, WireUse};
-
-/// How many lanes a wire has.
-const LANES: u64 = 1;
+use tdm_problem::{LANES, Problem, Solution, WireUse};
 
 /// The first wire on which the reciprocals of the ratios sum to more than its lanes. All ratios are positive and
 /// even. The only error is want of memory.

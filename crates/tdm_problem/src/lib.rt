@@ -16,7 +16,9 @@ mod trees;
 mod wire;
 
 pub use laws::{even, exchange, root_is_exact, tangent, users_have_the_ratios};
-pub use limits::{MAX_FPGAS, MAX_GROUPS, MAX_LISTED_FPGAS, MAX_LISTED_NETS, MAX_NETS, MAX_WIRES};
+pub use limits::{
+    LANES, MAX_FPGAS, MAX_GROUPS, MAX_LISTED_FPGAS, MAX_LISTED_NETS, MAX_NETS, MAX_WIRES,
+};
 pub use problem::{Problem, ProblemDraft};
 pub use solution::{Solution, WireUse};
 pub use trees::Trees;
