@@ -9,6 +9,7 @@ use std::marker::Brand;
 use std::process::Abort;
 use std::sync::ledger::{Blank, Ledger};
 
+/// The counts of these items, which are fewer than 2^20 and positive.
 fn counts_of(rt: &impl Abort, alloc: Global, ratios: &[u32]) -> Result<Counts, AllocError> {
     let mut counts = Counts::new(alloc);
     for &ratio in ratios {
@@ -27,6 +28,25 @@ fn counts_items_and_different_ratios(rt: HostRuntime) -> Result<(), AllocError> 
     Ok(())
 }
 
+/// Whether items of two different ratios or fewer fit so many lanes, after six steps or fewer.
+fn fits_after_six_steps<L: Ledger>(counts: &mut Counts, lanes: u64, steps: &mut Steps<L>) -> bool
+    requires { map.len counts.old ≤ 2 }
+    ensures { steps.new ≤ steps.old + 6 }
+{
+    counts.at_most(lanes, steps)
+}
+
+/// The same with new steps.
+fn fits_with_new_steps<L: Ledger>(counts: &mut Counts, lanes: u64, blank: Blank) -> bool
+    requires name { blank.name ≡ L.name }
+    requires parts { blank.parts ≡ L.parts }
+    requires some { 0 < blank.parts }
+    requires few { map.len counts.old ≤ 2 }
+{
+    let mut steps = Steps::<L>::new(blank);
+    fits_after_six_steps(counts, lanes, &mut steps)
+}
+
 #[test]
 fn compares_the_sum_of_reciprocals_exactly(rt: HostRuntime) -> Result<(), AllocError> {
     let none: &[u32] = &[];
@@ -40,6 +60,11 @@ fn compares_the_sum_of_reciprocals_exactly(rt: HostRuntime) -> Result<(), AllocE
     ] {
         let mut counts = counts_of(&rt, rt.alloc(), ratios)?;
         assert_eq!(rt; counts.fits_lanes(lanes), fits);
+        assert!(rt; counts.distinct() <= 2);
+        assert_eq!(rt;
+            fits_with_new_steps::<Brand>(&mut counts, lanes, Blank::new(1)),
+            fits
+        );
     }
     Ok(())
 }
@@ -51,31 +76,5 @@ fn an_item_taken_away_leaves_the_others(rt: HostRuntime) -> Result<(), AllocErro
     counts.add(2)?;
     counts.remove(2);
     assert_eq!(rt; (counts.items(), counts.distinct()), (3, 2));
-    Ok(())
-}
-
-// Whether items of two different ratios or fewer fit one lane, after six steps or fewer.
-fn fits_after_six_steps<L: Ledger>(counts: &mut Counts, steps: &mut Steps<L>) -> bool
-    requires { map.len counts.old ≤ 2 }
-    ensures { steps.new ≤ steps.old + 6 }
-{
-    counts.at_most(1, steps)
-}
-
-fn fits_with_new_steps<L: Ledger>(counts: &mut Counts, blank: Blank) -> bool
-    requires name { blank.name ≡ L.name }
-    requires parts { blank.parts ≡ L.parts }
-    requires some { 0 < blank.parts }
-    requires few { map.len counts.old ≤ 2 }
-{
-    let mut steps = Steps::<L>::new(blank);
-    fits_after_six_steps(counts, &mut steps)
-}
-
-#[test]
-fn two_ratios_are_decided_in_six_steps(rt: HostRuntime) -> Result<(), AllocError> {
-    let mut counts = counts_of(&rt, rt.alloc(), &[2, 6, 6, 6])?;
-    assert!(rt; counts.distinct() <= 2);
-    assert!(rt; fits_with_new_steps::<Brand>(&mut counts, Blank::new(1)));
     Ok(())
 }
