@@ -12,7 +12,7 @@ use Rattle.tdm_problem.specs.Board.{Board}
 use Rattle.bound_cert.specs.declared.certificate.CertKind.{CertKind}
 use Rattle.bound_cert.specs.declared.certificate.CertKind.TheVariants.{Share, Hop}
 use Rattle.bound_cert.specs.declared.header.Header.{Header}
-use Rattle.bound_cert.specs.declared.limits.TheConstants.{MAX_WEIGHT, MAX_LENGTH, MAX_UNIT, MAX_POTENTIALS, MAX_POTENTIAL_VALUE}
+use Rattle.bound_cert.specs.Limits.{most_weight, most_length, most_unit, most_potentials, most_potential_value}
 use Rattle.bound_cert.specs.declared.refusal.CertTextKind.{CertTextKind}
 use Rattle.bound_cert.specs.declared.refusal.CertTextKind.TheVariants.{NoHeader, BadUnit, BadKind, MissingLine, WeightLimit, LengthLimit, UnknownPotential}
 use Rattle.bound_cert.specs.declared.refusal.CertRefusal.{CertRefusal}
@@ -55,29 +55,29 @@ some-fpga (suc fpgas) count none some = omega arith
 
 -- the kind of a number
 kind-within : (line kind unit : ℕ) (out : CertKind) → kind_said line kind unit ≡ Ok out → HasUnit out
-kind-within line kind unit out ok = by (kind == 1) (kind == 2) (unit == 0) (nat_lt MAX_UNIT unit) refl refl ok
+kind-within line kind unit out ok = by (kind == 1) (kind == 2) (unit == 0) (nat_lt most_unit unit) refl refl ok
   where
-    by : (share hop none large : Bool) → (unit == 0) ≡ none → nat_lt MAX_UNIT unit ≡ large
+    by : (share hop none large : Bool) → (unit == 0) ≡ none → nat_lt most_unit unit ≡ large
         → cond share (cond none (Ok Share) (refused BadUnit line)) (cond hop (cond (none || large) (refused BadUnit line) (Ok (Hop unit))) (refused BadKind line)) ≡ Ok out → HasUnit out
     by true hop true large is_none is_large ok = subst HasUnit (ok-equal Share out ok) tt
     by true hop false large is_none is_large ok = absurd (cc)
     by false true true large is_none is_large ok = absurd (cc)
     by false true false true is_none is_large ok = absurd (cc)
-    by false true false false is_none is_large ok = subst HasUnit (ok-equal (Hop unit) out ok) (positive unit (eqb-false unit 0 is_none), ltb-false MAX_UNIT unit is_large)
+    by false true false false is_none is_large ok = subst HasUnit (ok-equal (Hop unit) out ok) (positive unit (eqb-false unit 0 is_none), ltb-false most_unit unit is_large)
     by false false none large is_none is_large ok = absurd (cc)
 
 -- how many potentials there are
-count-within : (fpgas line count out : ℕ) → count_said fpgas line count ≡ Ok out → (out ≤ MAX_POTENTIALS) × (0 < out → 0 < fpgas)
+count-within : (fpgas line count out : ℕ) → count_said fpgas line count ≡ Ok out → (out ≤ most_potentials) × (0 < out → 0 < fpgas)
 count-within fpgas line count out ok =
-    let said = unless-ok (nat_lt MAX_POTENTIALS count || (fpgas == 0 && nat_lt 0 count)) _ (Ok count) out ok in
-    let both = or-none (nat_lt MAX_POTENTIALS count) (fpgas == 0 && nat_lt 0 count) said.0 in
+    let said = unless-ok (nat_lt most_potentials count || (fpgas == 0 && nat_lt 0 count)) _ (Ok count) out ok in
+    let both = or-none (nat_lt most_potentials count) (fpgas == 0 && nat_lt 0 count) said.0 in
     let equal = ok-equal count out said.1 in
-    subst (λ n. (n ≤ MAX_POTENTIALS) × (0 < n → 0 < fpgas)) equal (ltb-false MAX_POTENTIALS count both.0, some-fpga fpgas count both.1)
+    subst (λ n. (n ≤ most_potentials) × (0 < n → 0 < fpgas)) equal (ltb-false most_potentials count both.0, some-fpga fpgas count both.1)
 
 -- a header
 record IsHeader (fpgas : ℕ) (header : Header) : Type 0 where
   kind : HasUnit header.kind
-  few : header.potentials ≤ MAX_POTENTIALS
+  few : header.potentials ≤ most_potentials
   some : 0 < header.potentials → 0 < fpgas
 
 header-within : (fpgas line : ℕ) (numbers : List ℕ) (out : Header) → header_said fpgas line numbers ≡ Ok out → IsHeader fpgas out
@@ -163,7 +163,7 @@ module _ (after largest : ℕ) where
   -- the lengths, as the kind has them
   lengths-say : (kind : CertKind) (wires : ℕ) (lines : List Line) (out : List ℕ × List Line) → HasUnit kind → lengths_from after kind wires lines ≡ Ok out → AreWithin largest lines → HasLengths kind out.0 × AreWithin largest out.1
   lengths-say Share wires lines out has ok are =
-      let said = section-says (number_said LengthLimit MAX_LENGTH) (λ l. l ≤ MAX_LENGTH) (λ line numbers x within. number-within LengthLimit MAX_LENGTH line numbers x) wires lines out ok are in
+      let said = section-says (number_said LengthLimit most_length) (λ l. l ≤ most_length) (λ line numbers x within. number-within LengthLimit most_length line numbers x) wires lines out ok are in
       (said.0, said.2)
   lengths-say (Hop unit) wires lines out has ok are =
       subst (λ (o : List ℕ × List Line). HasLengths (Hop unit) o.0 × AreWithin largest o.1) (ok-equal (replicate wires unit, lines) out ok) ((has.0, has.1, All-replicate (λ l. l ≡ unit) wires unit refl), are)
@@ -171,29 +171,29 @@ module _ (after largest : ℕ) where
 -- ---- the whole text
 
 -- what the lines of a potential say
-potential-holds : (fpgas line : ℕ) (numbers out : List ℕ) → 0 < fpgas → All (λ n. n ≤ MAX_POTENTIAL_VALUE) numbers → potential_said fpgas line numbers ≡ Ok out → IsPotential out
+potential-holds : (fpgas line : ℕ) (numbers out : List ℕ) → 0 < fpgas → All (λ n. n ≤ most_potential_value) numbers → potential_said fpgas line numbers ≡ Ok out → IsPotential out
 potential-holds fpgas line numbers out some within ok =
     let said = potential-within fpgas line numbers out ok in
-    record { some = omega (arith, said.1); values = subst (All (λ n. n ≤ MAX_POTENTIAL_VALUE)) said.0 within }
+    record { some = omega (arith, said.1); values = subst (All (λ n. n ≤ most_potential_value)) said.0 within }
 
 -- the potentials, of which there are none where there are no FPGAs
-potentials-say : (after fpgas count : ℕ) (lines : List Line) (out : List (List ℕ) × List Line) → (0 < count → 0 < fpgas) → section_from after (potential_said fpgas) count lines ≡ Ok out → AreWithin MAX_POTENTIAL_VALUE lines → All IsPotential out.0 × (length out.0 ≡ count) × AreWithin MAX_POTENTIAL_VALUE out.1
-potentials-say after fpgas zero lines out some ok are = subst (λ (o : List (List ℕ) × List Line). All IsPotential o.0 × (length o.0 ≡ 0) × AreWithin MAX_POTENTIAL_VALUE o.1) (ok-equal ([], lines) out ok) (All-nil IsPotential, refl, are)
+potentials-say : (after fpgas count : ℕ) (lines : List Line) (out : List (List ℕ) × List Line) → (0 < count → 0 < fpgas) → section_from after (potential_said fpgas) count lines ≡ Ok out → AreWithin most_potential_value lines → All IsPotential out.0 × (length out.0 ≡ count) × AreWithin most_potential_value out.1
+potentials-say after fpgas zero lines out some ok are = subst (λ (o : List (List ℕ) × List Line). All IsPotential o.0 × (length o.0 ≡ 0) × AreWithin most_potential_value o.1) (ok-equal ([], lines) out ok) (All-nil IsPotential, refl, are)
 potentials-say after fpgas (suc count) lines out some ok are =
-    section-says after MAX_POTENTIAL_VALUE (potential_said fpgas) IsPotential (λ line numbers x within said. potential-holds fpgas line numbers x (some (omega arith)) within said) (suc count) lines out ok are
+    section-says after most_potential_value (potential_said fpgas) IsPotential (λ line numbers x within said. potential-holds fpgas line numbers x (some (omega arith)) within said) (suc count) lines out ok are
 
-accepted-lines : (after : ℕ) (board : Board) (lines : List Line) (cert : Cert) → AreWithin MAX_POTENTIAL_VALUE lines → cert_from after board lines ≡ Ok cert → IsCert cert
+accepted-lines : (after : ℕ) (board : Board) (lines : List Line) (cert : Cert) → AreWithin most_potential_value lines → cert_from after board lines ≡ Ok cert → IsCert cert
 accepted-lines after board lines cert are ok =
     let header = bind-ok (line_from after NoHeader (header_said board.fpgas) lines) _ cert ok in
-    let headed = line-says after MAX_POTENTIAL_VALUE (header_said board.fpgas) (IsHeader board.fpgas) (λ line numbers x within. header-within board.fpgas line numbers x) NoHeader lines header.0 header.1 are in
-    let weights = bind-ok (section_from after (number_said WeightLimit MAX_WEIGHT) (length board.groups) header.0.1) _ cert header.2 in
-    let weighed = section-says after MAX_POTENTIAL_VALUE (number_said WeightLimit MAX_WEIGHT) (λ w. w ≤ MAX_WEIGHT) (λ line numbers x within. number-within WeightLimit MAX_WEIGHT line numbers x) (length board.groups) header.0.1 weights.0 weights.1 headed.1 in
+    let headed = line-says after most_potential_value (header_said board.fpgas) (IsHeader board.fpgas) (λ line numbers x within. header-within board.fpgas line numbers x) NoHeader lines header.0 header.1 are in
+    let weights = bind-ok (section_from after (number_said WeightLimit most_weight) (length board.groups) header.0.1) _ cert header.2 in
+    let weighed = section-says after most_potential_value (number_said WeightLimit most_weight) (λ w. w ≤ most_weight) (λ line numbers x within. number-within WeightLimit most_weight line numbers x) (length board.groups) header.0.1 weights.0 weights.1 headed.1 in
     let lengths = bind-ok (lengths_from after header.0.0.kind (length board.wires) weights.0.1) _ cert weights.2 in
-    let measured = lengths-say after MAX_POTENTIAL_VALUE header.0.0.kind (length board.wires) weights.0.1 lengths.0 headed.0.kind lengths.1 weighed.2 in
+    let measured = lengths-say after most_potential_value header.0.0.kind (length board.wires) weights.0.1 lengths.0 headed.0.kind lengths.1 weighed.2 in
     let potentials = bind-ok (section_from after (potential_said board.fpgas) header.0.0.potentials lengths.0.1) _ cert lengths.2 in
     let valued = potentials-say after board.fpgas header.0.0.potentials lengths.0.1 potentials.0 headed.0.some potentials.1 measured.1 in
     let choices = bind-ok (section_from after (number_said UnknownPotential header.0.0.potentials) (length board.nets) potentials.0.1) _ cert potentials.2 in
-    let chosen = section-says after MAX_POTENTIAL_VALUE (number_said UnknownPotential header.0.0.potentials) (λ c. c ≤ header.0.0.potentials) (λ line numbers x within. number-within UnknownPotential header.0.0.potentials line numbers x) (length board.nets) potentials.0.1 choices.0 choices.1 valued.2 in
+    let chosen = section-says after most_potential_value (number_said UnknownPotential header.0.0.potentials) (λ c. c ≤ header.0.0.potentials) (λ line numbers x within. number-within UnknownPotential header.0.0.potentials line numbers x) (length board.nets) potentials.0.1 choices.0 choices.1 valued.2 in
     subst IsCert (unless_more-ok _ choices.0.1 cert choices.2) (record {
       weights = weighed.0;
       lengths = measured.0;
@@ -205,4 +205,4 @@ accepted-lines after board lines cert are ok =
 -- the numbers of the certificate that a text says keep to their ranges
 pub accepted-cert : (board : Board) (text : List ℕ) (cert : Cert) → cert_of board text ≡ Ok cert → IsCert cert
 accepted-cert board text cert ok =
-    accepted-lines (line_after text) board (lines MAX_POTENTIAL_VALUE text) cert (AreWithin-lines_from MAX_POTENTIAL_VALUE 1 (pieces text)) (unless-ok _ _ _ cert ok).1
+    accepted-lines (line_after text) board (lines most_potential_value text) cert (AreWithin-lines_from most_potential_value 1 (pieces text)) (unless-ok _ _ _ cert ok).1

@@ -10,7 +10,7 @@ use Rattle.tdm_lines.specs.Written.{line_text, IsRow}
 use Rattle.tdm_lines.proofs.WrittenLemmas.{lines_from-line_text}
 use Rattle.bound_cert.specs.declared.certificate.CertKind.{CertKind}
 use Rattle.bound_cert.specs.declared.certificate.CertKind.TheVariants.{Share, Hop}
-use Rattle.bound_cert.specs.declared.limits.TheConstants.{MAX_WEIGHT, MAX_LENGTH, MAX_UNIT, MAX_POTENTIALS, MAX_POTENTIAL_VALUE}
+use Rattle.bound_cert.specs.Limits.{most_weight, most_length, most_unit, most_potentials, most_potential_value}
 use Rattle.bound_cert.specs.declared.refusal.CertTextKind.{CertTextKind}
 use Rattle.bound_cert.specs.declared.refusal.CertTextKind.TheVariants.{NoHeader, WeightLimit, LengthLimit, UnknownPotential, MissingLine}
 use Rattle.bound_cert.specs.declared.refusal.CertRefusal.{CertRefusal}
@@ -20,20 +20,20 @@ use Rattle.bound_cert.specs.CertReading.{kind_said, count_said, header_said, num
 
 -- a row that says a thing, wherever its line stands
 record Says {A : Type 0} (said : ℕ → List ℕ → Result A CertRefusal) (row : List ℕ) (x : A) : Type 0 where
-  is_row : IsRow MAX_POTENTIAL_VALUE row
+  is_row : IsRow most_potential_value row
   says : (n : ℕ) → said n row ≡ Ok x
 
 module _ (after : ℕ) {A : Type 0} (said : ℕ → List ℕ → Result A CertRefusal) where
   -- a line is read as what its row says
   line_read : (missing : CertTextKind) (row : List ℕ) (x : A) (n : ℕ) (rest : List ℕ) → Says said row x
-      → line_from after missing said (lines_from MAX_POTENTIAL_VALUE n (pieces (line_text row ++ rest))) ≡ Ok (x, lines_from MAX_POTENTIAL_VALUE (n + 1) (pieces rest))
+      → line_from after missing said (lines_from most_potential_value n (pieces (line_text row ++ rest))) ≡ Ok (x, lines_from most_potential_value (n + 1) (pieces rest))
   line_read missing row x n rest is =
-      rw (lines_from-line_text MAX_POTENTIAL_VALUE (omega arith) n row rest is.is_row, is.says n) refl
+      rw (lines_from-line_text most_potential_value (omega arith) n row rest is.is_row, is.says n) refl
 
   module _ (row : A → List ℕ) where
     -- lines are read as what their rows say
     section_read : (xs : List A) (n : ℕ) (rest : List ℕ) → All (λ x. Says said (row x) x) xs
-        → section_from after said (length xs) (lines_from MAX_POTENTIAL_VALUE n (pieces (flat_map (λ x. line_text (row x)) xs ++ rest))) ≡ Ok (xs, lines_from MAX_POTENTIAL_VALUE (n + length xs) (pieces rest))
+        → section_from after said (length xs) (lines_from most_potential_value n (pieces (flat_map (λ x. line_text (row x)) xs ++ rest))) ≡ Ok (xs, lines_from most_potential_value (n + length xs) (pieces rest))
     section_read [] n rest all = let here : n + 0 ≡ n = omega arith in rw here refl
     section_read (x ∷ xs) n rest all =
         let others : List ℕ = flat_map (λ y. line_text (row y)) xs in
@@ -48,13 +48,13 @@ module _ (after : ℕ) {A : Type 0} (said : ℕ → List ℕ → Result A CertRe
 -- ---- what the rows say
 
 -- a row of one number within the limit
-number_says : (above : CertTextKind) (limit n : ℕ) → limit ≤ MAX_POTENTIAL_VALUE → n ≤ limit → Says (number_said above limit) (n ∷ []) n
+number_says : (above : CertTextKind) (limit n : ℕ) → limit ≤ most_potential_value → n ≤ limit → Says (number_said above limit) (n ∷ []) n
 number_says above limit n most le = record {
-  is_row = record { some = omega arith; within = All-cons (λ m. m ≤ MAX_POTENTIAL_VALUE) n [] (omega arith) (All-nil (λ m. m ≤ MAX_POTENTIAL_VALUE)) };
+  is_row = record { some = omega arith; within = All-cons (λ m. m ≤ most_potential_value) n [] (omega arith) (All-nil (λ m. m ≤ most_potential_value)) };
   says = λ line. rw (le-ltb limit n le) refl;
 }
 
-numbers_say : (above : CertTextKind) (limit : ℕ) (numbers : List ℕ) → limit ≤ MAX_POTENTIAL_VALUE → All (λ n. n ≤ limit) numbers → All (λ n. Says (number_said above limit) (n ∷ []) n) numbers
+numbers_say : (above : CertTextKind) (limit : ℕ) (numbers : List ℕ) → limit ≤ most_potential_value → All (λ n. n ≤ limit) numbers → All (λ n. Says (number_said above limit) (n ∷ []) n) numbers
 numbers_say above limit numbers most within = All-weaker (λ n. n ≤ limit) (λ n. Says (number_said above limit) (n ∷ []) n) (λ n le. number_says above limit n most le) numbers within
 
 -- the row of a potential
@@ -72,32 +72,32 @@ kind_says : (kind : CertKind) (lengths : List ℕ) (line : ℕ) → HasLengths k
 kind_says Share lengths line has = refl
 kind_says (Hop unit) lengths line has =
     let some : 0 < unit = has.0 in
-    rw (ne_eqb unit 0 (λ e. omega arith), le-ltb MAX_UNIT unit has.1) refl
+    rw (ne_eqb unit 0 (λ e. omega arith), le-ltb most_unit unit has.1) refl
 
 and-false : (b : Bool) → (b && false) ≡ false
 and-false true = refl
 and-false false = refl
 
 -- potentials that have values stand on a board with FPGAs
-count_says : (fpgas line : ℕ) (potentials : List (List ℕ)) → length potentials ≤ MAX_POTENTIALS → All IsPotential potentials → All (λ values. length values ≡ fpgas) potentials → count_said fpgas line (length potentials) ≡ Ok (length potentials)
+count_says : (fpgas line : ℕ) (potentials : List (List ℕ)) → length potentials ≤ most_potentials → All IsPotential potentials → All (λ values. length values ≡ fpgas) potentials → count_said fpgas line (length potentials) ≡ Ok (length potentials)
 count_says fpgas line [] few are counts = rw (and-false (nat_eq fpgas 0)) refl
 count_says fpgas line (values ∷ potentials) few are counts =
     let first = All-head IsPotential values potentials are in
     let count : length values ≡ fpgas = All-head (λ vs. length vs ≡ fpgas) values potentials counts in
-    rw (le-ltb MAX_POTENTIALS (length (values ∷ potentials)) few, ne_eqb fpgas 0 (λ e. omega (arith, first.some, count))) refl
+    rw (le-ltb most_potentials (length (values ∷ potentials)) few, ne_eqb fpgas 0 (λ e. omega (arith, first.some, count))) refl
 
 -- the header
-kind_fits : (kind : CertKind) → number_of_kind kind ≤ MAX_POTENTIAL_VALUE
+kind_fits : (kind : CertKind) → number_of_kind kind ≤ most_potential_value
 kind_fits Share = omega arith
 kind_fits (Hop unit) = omega arith
 
-unit_fits : (kind : CertKind) (lengths : List ℕ) → HasLengths kind lengths → unit_of_kind kind ≤ MAX_POTENTIAL_VALUE
+unit_fits : (kind : CertKind) (lengths : List ℕ) → HasLengths kind lengths → unit_of_kind kind ≤ most_potential_value
 unit_fits Share lengths has = omega arith
 unit_fits (Hop unit) lengths has = omega (arith, has.1)
 
-row_of_four : (a b c d : ℕ) → a ≤ MAX_POTENTIAL_VALUE → b ≤ MAX_POTENTIAL_VALUE → c ≤ MAX_POTENTIAL_VALUE → d ≤ MAX_POTENTIAL_VALUE → IsRow MAX_POTENTIAL_VALUE (a ∷ b ∷ c ∷ d ∷ [])
+row_of_four : (a b c d : ℕ) → a ≤ most_potential_value → b ≤ most_potential_value → c ≤ most_potential_value → d ≤ most_potential_value → IsRow most_potential_value (a ∷ b ∷ c ∷ d ∷ [])
 row_of_four a b c d e f g h =
-    let Fit : ℕ → Type 0 = λ n. n ≤ MAX_POTENTIAL_VALUE in
+    let Fit : ℕ → Type 0 = λ n. n ≤ most_potential_value in
     record { some = omega arith; within = All-cons Fit a (b ∷ c ∷ d ∷ []) e (All-cons Fit b (c ∷ d ∷ []) f (All-cons Fit c (d ∷ []) g (All-cons Fit d [] h (All-nil Fit)))) }
 
 header_says : (board : Board) (cert : Cert) → IsCert cert → IsCertFor board cert → Says (header_said board.fpgas) (header_row cert) (record { kind = cert.kind; potentials = length cert.potentials })
@@ -116,9 +116,9 @@ all_same unit (l ∷ lengths) are =
     ap (λ (ls : List ℕ). unit ∷ ls) (all_same unit lengths (All-tail (λ m. m ≡ unit) l lengths are)) ∙ ap (λ (m : ℕ). m ∷ lengths) (sym (All-head (λ m. m ≡ unit) l lengths are))
 
 lengths_read : (after : ℕ) (kind : CertKind) (lengths : List ℕ) (n : ℕ) (rest : List ℕ) → HasLengths kind lengths
-    → lengths_from after kind (length lengths) (lines_from MAX_POTENTIAL_VALUE n (pieces (flat_map number_line (listed_lengths kind lengths) ++ rest)))
-    ≡ Ok (lengths, lines_from MAX_POTENTIAL_VALUE (n + length (listed_lengths kind lengths)) (pieces rest))
-lengths_read after Share lengths n rest has = section_read after (number_said LengthLimit MAX_LENGTH) (λ l. l ∷ []) lengths n rest (numbers_say LengthLimit MAX_LENGTH lengths (omega arith) has)
+    → lengths_from after kind (length lengths) (lines_from most_potential_value n (pieces (flat_map number_line (listed_lengths kind lengths) ++ rest)))
+    ≡ Ok (lengths, lines_from most_potential_value (n + length (listed_lengths kind lengths)) (pieces rest))
+lengths_read after Share lengths n rest has = section_read after (number_said LengthLimit most_length) (λ l. l ∷ []) lengths n rest (numbers_say LengthLimit most_length lengths (omega arith) has)
 lengths_read after (Hop unit) lengths n rest has =
     let here : n + 0 ≡ n = omega arith in
     rw (here, all_same unit lengths has.2) refl
@@ -129,7 +129,7 @@ lengths_read after (Hop unit) lengths n rest has =
 five_texts : (a b c d e : List ℕ) → a ++ b ++ c ++ d ++ e ≡ a ++ (b ++ (c ++ (d ++ (e ++ []))))
 five_texts a b c d e = rw (append-nil e, append_assoc (a ++ b ++ c) d e, append_assoc (a ++ b) c (d ++ e), append_assoc a b (c ++ (d ++ e))) refl
 
-lines_read : (board : Board) (cert : Cert) (after : ℕ) → IsCert cert → IsCertFor board cert → cert_from after board (lines MAX_POTENTIAL_VALUE (cert_text cert)) ≡ Ok cert
+lines_read : (board : Board) (cert : Cert) (after : ℕ) → IsCert cert → IsCertFor board cert → cert_from after board (lines most_potential_value (cert_text cert)) ≡ Ok cert
 lines_read board cert after is is_for =
     let weights : List ℕ = flat_map number_line cert.weights in
     let lengths : List ℕ = flat_map number_line (listed_lengths cert.kind cert.lengths) in
@@ -141,7 +141,7 @@ lines_read board cert after is is_for =
       five_texts (line_text (header_row cert)) weights lengths potentials choices,
       line_read after (header_said board.fpgas) NoHeader (header_row cert) (record { kind = cert.kind; potentials = length cert.potentials }) 1 (weights ++ (lengths ++ (potentials ++ (choices ++ [])))) (header_says board cert is is_for),
       ← is_for.weights,
-      section_read after (number_said WeightLimit MAX_WEIGHT) (λ w. w ∷ []) cert.weights 2 (lengths ++ (potentials ++ (choices ++ []))) (numbers_say WeightLimit MAX_WEIGHT cert.weights (omega arith) is.weights),
+      section_read after (number_said WeightLimit most_weight) (λ w. w ∷ []) cert.weights 2 (lengths ++ (potentials ++ (choices ++ []))) (numbers_say WeightLimit most_weight cert.weights (omega arith) is.weights),
       ← is_for.lengths,
       lengths_read after cert.kind cert.lengths n (potentials ++ (choices ++ [])) is.lengths,
       section_read after (potential_said board.fpgas) (λ values. values) cert.potentials m (choices ++ []) (potentials_say board.fpgas cert.potentials is.potentials is_for.potentials),

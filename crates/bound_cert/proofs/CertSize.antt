@@ -11,7 +11,7 @@ use Rattle.text_writer.specs.Writing.{number_then}
 use Rattle.text_writer.proofs.LineParts.{line-next}
 use Rattle.bound_cert.specs.declared.certificate.CertKind.{CertKind}
 use Rattle.bound_cert.specs.declared.certificate.CertKind.TheVariants.{Share, Hop}
-use Rattle.bound_cert.specs.declared.limits.TheConstants.{MAX_WEIGHT, MAX_LENGTH, MAX_UNIT, MAX_POTENTIALS, MAX_POTENTIAL_VALUE}
+use Rattle.bound_cert.specs.Limits.{most_weight, most_length, most_unit, most_potentials, most_potential_value}
 use Rattle.bound_cert.specs.Certificate.{Cert, IsCert, IsCertFor, IsPotential, HasLengths}
 use Rattle.bound_cert.specs.CertText.{header_row, listed_lengths, number_of_kind, unit_of_kind, number_line, cert_text}
 
@@ -28,20 +28,20 @@ length-column most (n ∷ numbers) short =
     let first : length (number_line n) ≤ most + 1 = length-number_then most n 10 (All-head (λ m. length (digits m) ≤ most) n numbers short) in
     omega (arith, length-append (number_line n) (flat_map number_line numbers), first, length-column most numbers (All-tail (λ m. length (digits m) ≤ most) n numbers short))
 
-length-weights : (weights : List ℕ) → All (λ w. w ≤ MAX_WEIGHT) weights → length (flat_map number_line weights) ≤ 14 * length weights
+length-weights : (weights : List ℕ) → All (λ w. w ≤ most_weight) weights → length (flat_map number_line weights) ≤ 14 * length weights
 length-weights weights within =
     let short : All (λ w. length (digits w) ≤ 13) weights =
-    All-weaker (λ w. w ≤ MAX_WEIGHT) (λ w. length (digits w) ≤ 13) (λ w le. length-decimal-le_wide 13 w (omega arith) (omega arith) (omega arith)) weights within in
+    All-weaker (λ w. w ≤ most_weight) (λ w. length (digits w) ≤ 13) (λ w le. length-decimal-le_wide 13 w (omega arith) (omega arith) (omega arith)) weights within in
     omega (arith, length-column 13 weights short)
 
 length-lengths : (kind : CertKind) (lengths : List ℕ) → HasLengths kind lengths → length (flat_map number_line (listed_lengths kind lengths)) ≤ 16 * length lengths
 length-lengths Share lengths within =
     let short : All (λ l. length (digits l) ≤ 15) lengths =
-    All-weaker (λ l. l ≤ MAX_LENGTH) (λ l. length (digits l) ≤ 15) (λ l le. length-decimal-le_wide 15 l (omega arith) (omega arith) (omega arith)) lengths within in
+    All-weaker (λ l. l ≤ most_length) (λ l. length (digits l) ≤ 15) (λ l le. length-decimal-le_wide 15 l (omega arith) (omega arith) (omega arith)) lengths within in
     omega (arith, length-column 15 lengths short)
 length-lengths (Hop unit) lengths within = omega arith
 
-length-choices : (count : ℕ) (choices : List ℕ) → count ≤ MAX_POTENTIALS → All (λ c. c ≤ count) choices → length (flat_map number_line choices) ≤ 5 * length choices
+length-choices : (count : ℕ) (choices : List ℕ) → count ≤ most_potentials → All (λ c. c ≤ count) choices → length (flat_map number_line choices) ≤ 5 * length choices
 length-choices count choices few within =
     let short : All (λ c. length (digits c) ≤ 4) choices =
     All-weaker (λ c. c ≤ count) (λ c. length (digits c) ≤ 4) (λ c le. length-decimal-le_wide 4 c (omega arith) (omega (arith, few)) (omega (arith, few))) choices within in
@@ -50,15 +50,15 @@ length-choices count choices few within =
 -- ---- lines of several numbers
 
 -- each value has at most 19 digits
-length-values : (values : List ℕ) → 0 < length values → All (λ v. v ≤ MAX_POTENTIAL_VALUE) values → length (line_text values) ≤ 20 * length values
+length-values : (values : List ℕ) → 0 < length values → All (λ v. v ≤ most_potential_value) values → length (line_text values) ≤ 20 * length values
 length-values [] some within = omega arith
 length-values (v ∷ []) some within =
-    let below : v ≤ MAX_POTENTIAL_VALUE = All-head (λ w. w ≤ MAX_POTENTIAL_VALUE) v [] within in
+    let below : v ≤ most_potential_value = All-head (λ w. w ≤ most_potential_value) v [] within in
     length-number_then 19 v 10 (length-decimal-le_wide 19 v (omega arith) (omega arith) (omega arith))
 length-values (v ∷ w ∷ values) some within =
-    let below : v ≤ MAX_POTENTIAL_VALUE = All-head (λ u. u ≤ MAX_POTENTIAL_VALUE) v (w ∷ values) within in
+    let below : v ≤ most_potential_value = All-head (λ u. u ≤ most_potential_value) v (w ∷ values) within in
     let first : length (number_then v 32) ≤ 20 = length-number_then 19 v 32 (length-decimal-le_wide 19 v (omega arith) (omega arith) (omega arith)) in
-    let others : length (line_text (w ∷ values)) ≤ 20 * length (w ∷ values) = length-values (w ∷ values) (omega arith) (All-tail (λ u. u ≤ MAX_POTENTIAL_VALUE) v (w ∷ values) within) in
+    let others : length (line_text (w ∷ values)) ≤ 20 * length (w ∷ values) = length-values (w ∷ values) (omega arith) (All-tail (λ u. u ≤ most_potential_value) v (w ∷ values) within) in
     let whole : length (number_then v 32) + length (line_text (w ∷ values)) ≡ length (line_text (v ∷ w ∷ values)) =
     sym (length-append (number_then v 32) (line_text (w ∷ values))) ∙ ap (λ (text : List ℕ). length text) (line-next v w values) in
     omega (arith, first, others, whole)
@@ -83,7 +83,7 @@ digits-kind (Hop unit) = length-decimal-le_wide 1 2 (omega arith) (omega arith) 
 
 digits-unit : (kind : CertKind) (lengths : List ℕ) → HasLengths kind lengths → length (digits (unit_of_kind kind)) ≤ 7
 digits-unit Share lengths has = length-decimal-le_wide 7 0 (omega arith) (omega arith) (omega arith)
-digits-unit (Hop unit) lengths has = let most : unit ≤ MAX_UNIT = has.1 in length-decimal-le_wide 7 unit (omega arith) (omega arith) (omega arith)
+digits-unit (Hop unit) lengths has = let most : unit ≤ most_unit = has.1 in length-decimal-le_wide 7 unit (omega arith) (omega arith) (omega arith)
 
 length-header : (kind unit count : ℕ) → length (digits kind) ≤ 1 → length (digits unit) ≤ 7 → length (digits count) ≤ 4 → length (line_text (1 ∷ kind ∷ unit ∷ count ∷ [])) ≤ 17
 length-header kind unit count a b c =

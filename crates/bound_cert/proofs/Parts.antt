@@ -6,7 +6,7 @@ use Rattle.std.proofs.lemmas.List.Sums.{sum_by-le}
 use Rattle.std.proofs.lemmas.Nat.{mul-le}
 use Rattle.tdm_problem.specs.Board.{Board, IsBoard}
 use Rattle.tdm_problem.specs.declared.limits.TheConstants.{MAX_FPGAS}
-use Rattle.bound_cert.specs.declared.limits.TheConstants.{MAX_POTENTIAL_VALUE, MAX_POTENTIAL_VALUES}
+use Rattle.bound_cert.specs.Limits.{most_potential_value, most_potential_values}
 use Rattle.bound_cert.specs.Certificate.{IsPotential}
 use Rattle.bound_cert.specs.Makers.{AreRootPotentials, ChooseSources}
 use Rattle.bound_cert.proofs.RootLaws.{roots_below}
@@ -26,14 +26,14 @@ module _ (board : Board) (wire_length : ℕ → ℕ) (potentials : List (List �
 
   module _ (is : IsBoard board) where
     -- each potential has values, none of them too large
-    pub potentials_within : (most : ℕ) → most ≤ MAX_POTENTIAL_VALUE → All (All (λ v. v ≤ most)) potentials → All IsPotential potentials
+    pub potentials_within : (most : ℕ) → most ≤ most_potential_value → All (All (λ v. v ≤ most)) potentials → All IsPotential potentials
     potentials_within most limit small p d below = record {
       some = omega (arith, potentials_long p d below, roots_below board is p 0 (omega (arith, below, are.count)));
       values = λ f e there. omega (arith, small p d below f e there);
     }
 
     -- all potentials have together no more values than they may
-    pub few_values : length potentials ≤ MAX_FPGAS → sum_by length potentials ≤ MAX_POTENTIAL_VALUES
+    pub few_values : length potentials ≤ MAX_FPGAS → sum_by length potentials ≤ most_potential_values
     few_values few =
         let total = sum_by-le length board.fpgas potentials (λ p d below. omega (arith, potentials_long p d below)) in
         omega (arith, total, mul-le (length potentials) board.fpgas MAX_FPGAS MAX_FPGAS few is.fpga_limit)

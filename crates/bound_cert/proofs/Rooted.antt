@@ -5,21 +5,21 @@ use Rattle.std.proofs.lemmas.Nat.{mul-le}
 use Rattle.tdm_problem.specs.declared.limits.TheConstants.{MAX_NETS, MAX_FPGAS}
 use Rattle.tdm_problem.specs.Sums.{sum_below}
 use Rattle.tdm_problem.specs.Roots.{root_of}
-use Rattle.bound_cert.specs.declared.limits.TheConstants.{UNIFORM_WEIGHT}
+use Rattle.bound_cert.specs.Limits.{uniform_weight}
 
 -- the depth of net n, by the root of its weight
 abbrev pub rooted : List ℕ → List ℕ → ℕ → ℕ
-rooted holders depths n = root_of (UNIFORM_WEIGHT * slice_index holders n) * slice_index depths n
+rooted holders depths n = root_of (uniform_weight * slice_index holders n) * slice_index depths n
 
 -- the sum over the nets before net n, which is no more than so many times the largest
 pub record IsRootedBelow (holders depths : List ℕ) (n total : ℕ) : Type 0 where
   pub total_is : total ≡ sum_below n (rooted holders depths)
-  pub within : (most : ℕ) → All (λ h. h ≤ most) depths → total ≤ n * (UNIFORM_WEIGHT * most)
+  pub within : (most : ℕ) → All (λ h. h ≤ most) depths → total ≤ n * (uniform_weight * most)
 
 pub rooted_none : (holders depths : List ℕ) → IsRootedBelow holders depths 0 0
 rooted_none holders depths = record { total_is = refl; within = λ most small. omega arith }
 
-pub rooted_more : (holders depths : List ℕ) (n total next : ℕ) → n < length depths → IsRootedBelow holders depths n total → next ≡ rooted holders depths n → next ≤ UNIFORM_WEIGHT * slice_index depths n → IsRootedBelow holders depths (n + 1) (total + next)
+pub rooted_more : (holders depths : List ℕ) (n total next : ℕ) → n < length depths → IsRootedBelow holders depths n total → next ≡ rooted holders depths n → next ≤ uniform_weight * slice_index depths n → IsRootedBelow holders depths (n + 1) (total + next)
 rooted_more holders depths n total next there so_far is small = record {
   total_is = (let step : sum_below (n + 1) (rooted holders depths) ≡ sum_below n (rooted holders depths) + rooted holders depths n = ap (λ (m : ℕ). sum_below m (rooted holders depths)) (add-one n) in
       omega (arith, step, so_far.total_is));
@@ -27,11 +27,11 @@ rooted_more holders depths n total next there so_far is small = record {
 }
 
 -- the sums fit their type
-pub rooted_fits : (holders depths : List ℕ) (n total next : ℕ) → n < length depths → length depths ≤ MAX_NETS → All (λ h. h ≤ MAX_FPGAS) depths → IsRootedBelow holders depths n total → next ≤ UNIFORM_WEIGHT * slice_index depths n → total + next < 2 ^ 64
+pub rooted_fits : (holders depths : List ℕ) (n total next : ℕ) → n < length depths → length depths ≤ MAX_NETS → All (λ h. h ≤ MAX_FPGAS) depths → IsRootedBelow holders depths n total → next ≤ uniform_weight * slice_index depths n → total + next < 2 ^ 64
 rooted_fits holders depths n total next there few small so_far next_small =
     omega (arith, so_far.within MAX_FPGAS small, small n 0 there)
 
 -- all of them together
 pub rooted_within : (holders depths : List ℕ) (n total most : ℕ) → n ≤ MAX_NETS → IsRootedBelow holders depths n total → All (λ h. h ≤ most) depths → total ≤ 2 ^ 40 * most
 rooted_within holders depths n total most few all small =
-    omega (arith, all.within most small, mul-le n (UNIFORM_WEIGHT * most) MAX_NETS (UNIFORM_WEIGHT * most) few (omega arith))
+    omega (arith, all.within most small, mul-le n (uniform_weight * most) MAX_NETS (uniform_weight * most) few (omega arith))

@@ -9,7 +9,7 @@ use Rattle.tdm_problem.specs.Sums.{sum_below}
 use Rattle.tdm_problem.specs.Roots.{root_of}
 use Rattle.tdm_problem.specs.Weights.{net_weight}
 use Rattle.tdm_problem.proofs.SumsBelow.{sum_below-agree, sum_below-times}
-use Rattle.bound_cert.specs.declared.limits.TheConstants.{MAX_LENGTH, MAX_POTENTIAL_VALUES, UNIFORM_WEIGHT}
+use Rattle.bound_cert.specs.Limits.{most_length, most_potential_values, uniform_weight}
 use Rattle.tdm_problem.specs.declared.limits.TheConstants.{MAX_FPGAS}
 use Rattle.bound_cert.specs.declared.certificate.CertKind.{CertKind}
 use Rattle.bound_cert.specs.declared.certificate.CertKind.TheVariants.{Share}
@@ -37,14 +37,14 @@ pub rooted_depths_are : (board : Board) (holders depths : List ℕ) → AreDepth
 rooted_depths_are board holders depths are held =
     ap (λ (n : ℕ). sum_below n (rooted holders depths)) are.count
     ∙ sum_below-agree (length board.nets) (rooted holders depths) (λ n. uniform_root board n * depth_of depths n)
-    (λ n there. ap (λ (h : ℕ). root_of (UNIFORM_WEIGHT * h) * depth_of depths n) (held n there))
+    (λ n there. ap (λ (h : ℕ). root_of (uniform_weight * h) * depth_of depths n) (held n there))
 
-module _ (board : Board) (depths : List ℕ) (cert : Cert) (is : IsBoard board) (are_depths : AreDepths board depths) (has : HasRootPotentials board cert) (weights : cert.weights ≡ replicate (length board.groups) UNIFORM_WEIGHT) (lengths : cert.lengths ≡ replicate (length board.wires) (uniform_length board depths)) where
+module _ (board : Board) (depths : List ℕ) (cert : Cert) (is : IsBoard board) (are_depths : AreDepths board depths) (has : HasRootPotentials board cert) (weights : cert.weights ≡ replicate (length board.groups) uniform_weight) (lengths : cert.lengths ≡ replicate (length board.wires) (uniform_length board depths)) where
   even : (e : ℕ) → e < length board.wires → length_of cert e ≡ uniform_length board depths
   even e there = ap (λ (ls : List ℕ). get_or ls e 0) lengths ∙ get_or-replicate (length board.wires) e (uniform_length board depths) 0 there
 
   root_is : (n : ℕ) → root_of_net board cert n ≡ uniform_root board n
-  root_is n = ap root_of (ap (λ (ws : List ℕ). net_weight board.groups ws n) weights ∙ net_weight-uniform board.groups UNIFORM_WEIGHT n)
+  root_is n = ap root_of (ap (λ (ws : List ℕ). net_weight board.groups ws n) weights ∙ net_weight-uniform board.groups uniform_weight n)
 
   -- the spreads by the roots are the rooted depths, times the length
   root_spreads_are : root_spreads board cert ≡ uniform_length board depths * rooted_depths board depths
@@ -64,8 +64,8 @@ module _ (board : Board) (depths : List ℕ) (cert : Cert) (is : IsBoard board) 
       ap (λ (ls : List ℕ). sum_by (λ l. l * l) ls) lengths
       ∙ sum-same (λ (l : ℕ). l * l) (length board.wires) (uniform_length board depths)
 
-  weights_are : sum cert.weights ≡ UNIFORM_WEIGHT * length board.groups
-  weights_are = omega (arith, ap sum weights, sum-same (λ (w : ℕ). w) (length board.groups) UNIFORM_WEIGHT)
+  weights_are : sum cert.weights ≡ uniform_weight * length board.groups
+  weights_are = omega (arith, ap sum weights, sum-same (λ (w : ℕ). w) (length board.groups) uniform_weight)
 
   pub bound_is_share_floor : cert.kind ≡ Share → bound_of board cert ≡ share_floor board depths
   bound_is_share_floor kind =
@@ -81,7 +81,7 @@ pub record AreShareParts (board : Board) (unit : ℕ) (depths weights lengths ch
   pub is_board : IsBoard board
   pub unit_is : unit ≡ uniform_length board depths
   pub unit_short : unit ≤ 2 ^ 40
-  pub weights_are : weights ≡ replicate (length board.groups) UNIFORM_WEIGHT
+  pub weights_are : weights ≡ replicate (length board.groups) uniform_weight
   pub lengths_are : lengths ≡ replicate (length board.wires) unit
   pub from_hops : AreRootPotentials board (λ _. 1) hops
   pub few : length hops ≤ MAX_FPGAS
@@ -96,17 +96,17 @@ pub record IsShareMade (board : Board) (cert : Cert) : Type 0 where
   pub for_problem : IsCertFor board cert
   pub valid : IsValid board cert
   pub floor : IsShareFloor board (bound_of board cert)
-  pub few : sum_by length cert.potentials ≤ MAX_POTENTIAL_VALUES
+  pub few : sum_by length cert.potentials ≤ most_potential_values
 
 module _ (board : Board) (unit : ℕ) (depths weights lengths choices : List ℕ) (hops potentials : List (List ℕ)) (parts : AreShareParts board unit depths weights lengths choices hops potentials) where
   -- the length of each wire, by any function that is so on the wires
   are_scaled : (wire_length : ℕ → ℕ) → ((e : ℕ) → e < length board.wires → wire_length e ≡ unit) → AreRootPotentials board wire_length potentials
   are_scaled wire_length at_unit = AreRootPotentials-scaled board wire_length unit hops potentials at_unit parts.from_hops parts.scaled
 
-  pub share_lengths_within : All (λ l. l ≤ MAX_LENGTH) lengths
+  pub share_lengths_within : All (λ l. l ≤ most_length) lengths
   share_lengths_within =
-      subst (λ (ls : List ℕ). All (λ l. l ≤ MAX_LENGTH) ls) (sym parts.lengths_are)
-      (All-replicate (λ l. l ≤ MAX_LENGTH) (length board.wires) unit (omega (arith, parts.unit_short)))
+      subst (λ (ls : List ℕ). All (λ l. l ≤ most_length) ls) (sym parts.lengths_are)
+      (All-replicate (λ l. l ≤ most_length) (length board.wires) unit (omega (arith, parts.unit_short)))
 
   pub share_potentials_within : All IsPotential potentials
   share_potentials_within =
@@ -127,12 +127,12 @@ module _ (board : Board) (unit : ℕ) (depths weights lengths choices : List ℕ
           depths = depths;
           are_depths = parts.are_depths;
           kind = refl;
-          weights = λ g there. ap (λ (ws : List ℕ). get_or ws g 0) parts.weights_are ∙ get_or-replicate (length board.groups) g UNIFORM_WEIGHT 0 there;
+          weights = λ g there. ap (λ (ws : List ℕ). get_or ws g 0) parts.weights_are ∙ get_or-replicate (length board.groups) g uniform_weight 0 there;
           lengths = λ e there. at_unit e there ∙ parts.unit_is;
           potentials = has;
         };
         for_problem = record {
-          weights = ap length parts.weights_are ∙ length-replicate (length board.groups) UNIFORM_WEIGHT;
+          weights = ap length parts.weights_are ∙ length-replicate (length board.groups) uniform_weight;
           lengths = ap length parts.lengths_are ∙ length-replicate (length board.wires) unit;
           potentials = potentials_long board (length_of cert) potentials has.potentials;
           choices = parts.chosen.count;

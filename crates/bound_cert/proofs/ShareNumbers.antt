@@ -3,17 +3,17 @@ use Rattle.std.proofs.Common.{◌≡◌, ℕ, zero, suc, ◌+◌, ◌*◌, ◌/�
 use Rattle.std.proofs.Math.Nat.{div-mul-le_self}
 use Rattle.std.proofs.lemmas.Bool.{cases_lt}
 use Rattle.std.proofs.lemmas.Nat.{mul-le}
-use Rattle.bound_cert.specs.declared.limits.TheConstants.{UNIFORM_WEIGHT}
+use Rattle.bound_cert.specs.Limits.{uniform_weight}
 use Rattle.bound_cert.specs.Floors.{part_of}
 
 -- the root of a net's weight is at most 2^20
-pub root_small : (root holders : ℕ) → root * root ≤ UNIFORM_WEIGHT * holders → holders ≤ UNIFORM_WEIGHT → root ≤ UNIFORM_WEIGHT
-root_small root holders square few = go (cases_lt UNIFORM_WEIGHT root)
+pub root_small : (root holders : ℕ) → root * root ≤ uniform_weight * holders → holders ≤ uniform_weight → root ≤ uniform_weight
+root_small root holders square few = go (cases_lt uniform_weight root)
   where
-    go : (UNIFORM_WEIGHT < root) ⊎ (root ≤ UNIFORM_WEIGHT) → root ≤ UNIFORM_WEIGHT
+    go : (uniform_weight < root) ⊎ (root ≤ uniform_weight) → root ≤ uniform_weight
     go (inl more) =
-        let more' : UNIFORM_WEIGHT + 1 ≤ root = omega arith in
-        absurd (omega (arith, mul-le (UNIFORM_WEIGHT + 1) (UNIFORM_WEIGHT + 1) root root more' more'))
+        let more' : uniform_weight + 1 ≤ root = omega arith in
+        absurd (omega (arith, mul-le (uniform_weight + 1) (uniform_weight + 1) root root more' more'))
     go (inr fine) = fine
 
 -- a part of nothing, and of something

@@ -30,10 +30,11 @@ chosen_spread cert fpgas (suc p) = spread (potential_of cert p) fpgas
 abbrev pub net_spread : Board → Cert → (n : ℕ) → ℕ
 net_spread board cert n = chosen_spread cert (terminals_of board n) (choice_of cert n)
 
--- the weight of net n, and its root
+-- the weight of net n: that of each group that holds it
 abbrev pub weight_of_net : Board → Cert → (n : ℕ) → ℕ
 weight_of_net board cert n = net_weight board.groups cert.weights n
 
+-- the root of the weight of net n, a whole number
 abbrev pub root_of_net : Board → Cert → (n : ℕ) → ℕ
 root_of_net board cert n = root_of (weight_of_net board cert n)
 
@@ -45,19 +46,21 @@ root_spreads board cert = sum_below (length board.nets) (λ n. root_of_net board
 abbrev pub weight_spreads : Board → Cert → ℕ
 weight_spreads board cert = sum_below (length board.nets) (λ n. weight_of_net board cert n * net_spread board cert n)
 
--- what the bound times the divisor must reach, 0 where that is negative
+-- what the bound times the divisor must reach, 0 where that is negative, by a certificate of this kind
 abbrev pub demand_of_kind : CertKind → Board → Cert → ℕ
 demand_of_kind Share board cert = 2 * root_spreads board cert - sum_by (λ l. l * l) cert.lengths
 demand_of_kind (Hop unit) board cert = 2 * weight_spreads board cert
 
+-- what the bound times the divisor must reach
 abbrev pub demand_of : Board → Cert → ℕ
 demand_of board cert = demand_of_kind cert.kind board cert
 
--- what the bound is multiplied by: the sum of all weights, by hops times the unit
+-- what the bound is multiplied by, by a certificate of this kind: the sum of all weights, by hops times the unit
 abbrev pub divisor_of_kind : CertKind → (weights : List ℕ) → ℕ
 divisor_of_kind Share weights = sum weights
 divisor_of_kind (Hop unit) weights = unit * sum weights
 
+-- what the bound is multiplied by
 abbrev pub divisor_of : Cert → ℕ
 divisor_of cert = divisor_of_kind cert.kind cert.weights
 

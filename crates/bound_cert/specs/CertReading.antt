@@ -7,7 +7,7 @@ use Rattle.tdm_lines.specs.Lines.{Line, lines, line_after}
 use Rattle.bound_cert.specs.declared.certificate.CertKind.{CertKind}
 use Rattle.bound_cert.specs.declared.certificate.CertKind.TheVariants.{Share, Hop}
 use Rattle.bound_cert.specs.declared.header.Header.{Header}
-use Rattle.bound_cert.specs.declared.limits.TheConstants.{MAX_WEIGHT, MAX_LENGTH, MAX_UNIT, MAX_POTENTIALS, MAX_POTENTIAL_VALUE}
+use Rattle.bound_cert.specs.Limits.{most_weight, most_length, most_unit, most_potentials, most_potential_value}
 use Rattle.bound_cert.specs.declared.refusal.CertTextKind.{CertTextKind}
 use Rattle.bound_cert.specs.declared.refusal.CertTextKind.TheVariants.{NoHeader, BadNumber, NumberTooLarge, WrongCount, BadVersion, BadKind, BadUnit, CountLimit, WeightLimit, LengthLimit, UnknownPotential, MissingLine, ExtraLine, TooLong}
 use Rattle.bound_cert.specs.declared.refusal.CertRefusal.{CertRefusal}
@@ -39,13 +39,13 @@ unless_bad (Some token.NumberTooLarge) line more = refused NumberTooLarge line.n
 abbrev pub kind_said : ℕ → (kind unit : ℕ) → Result CertKind CertRefusal
 kind_said line kind unit =
     if kind == 1 then (if unit == 0 then Ok Share else refused BadUnit line)
-    else (if kind == 2 then (if unit == 0 || nat_lt MAX_UNIT unit then refused BadUnit line else Ok (Hop unit))
+    else (if kind == 2 then (if unit == 0 || nat_lt most_unit unit then refused BadUnit line else Ok (Hop unit))
     else refused BadKind line)
 
 -- how many potentials there are: none where they would have no value
 abbrev pub count_said : (fpgas line count : ℕ) → Result ℕ CertRefusal
 count_said fpgas line count =
-    if nat_lt MAX_POTENTIALS count || (fpgas == 0 && nat_lt 0 count) then refused CountLimit line else Ok count
+    if nat_lt most_potentials count || (fpgas == 0 && nat_lt 0 count) then refused CountLimit line else Ok count
 
 -- a header has four numbers: version 1, a kind, its unit, and how many potentials there are
 abbrev pub header_said : ℕ → ℕ → List ℕ → Result Header CertRefusal
@@ -96,14 +96,14 @@ module _ (after : ℕ) where
 
   -- the length of each wire: a line for each, or the unit and no line
   abbrev pub lengths_from : CertKind → ℕ → List Line → Result (List ℕ × List Line) CertRefusal
-  lengths_from Share wires lines = section_from (number_said LengthLimit MAX_LENGTH) wires lines
+  lengths_from Share wires lines = section_from (number_said LengthLimit most_length) wires lines
   lengths_from (Hop unit) wires lines = Ok (replicate wires unit, lines)
 
   -- the header, then the weights, lengths, potentials and choices, and no line behind them
   abbrev pub cert_from : Board → List Line → Result Cert CertRefusal
   cert_from board lines = do
     header ← line_from NoHeader (header_said board.fpgas) lines
-    weights ← section_from (number_said WeightLimit MAX_WEIGHT) (length board.groups) header.1
+    weights ← section_from (number_said WeightLimit most_weight) (length board.groups) header.1
     lengths ← lengths_from header.0.kind (length board.wires) weights.1
     potentials ← section_from (potential_said board.fpgas) header.0.potentials lengths.1
     choices ← section_from (number_said UnknownPotential header.0.potentials) (length board.nets) potentials.1
@@ -119,4 +119,4 @@ module _ (after : ℕ) where
 abbrev pub cert_of : Board → List ℕ → Result Cert CertRefusal
 cert_of board text =
     if nat_lt most_bytes (length text) then refused TooLong 0
-    else cert_from (line_after text) board (lines MAX_POTENTIAL_VALUE text)
+    else cert_from (line_after text) board (lines most_potential_value text)

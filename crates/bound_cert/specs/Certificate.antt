@@ -3,7 +3,7 @@ use Rattle.std.specs.Prelude.{◌≡◌, ℕ, ◌<◌, ◌≤◌, List, [], leng
 use Rattle.tdm_problem.specs.Board.{Board}
 use Rattle.bound_cert.specs.declared.certificate.CertKind.{CertKind}
 use Rattle.bound_cert.specs.declared.certificate.CertKind.TheVariants.{Share, Hop}
-use Rattle.bound_cert.specs.declared.limits.TheConstants.{MAX_WEIGHT, MAX_LENGTH, MAX_UNIT, MAX_POTENTIALS, MAX_POTENTIAL_VALUE}
+use Rattle.bound_cert.specs.Limits.{most_weight, most_length, most_unit, most_potentials, most_potential_value}
 
 -- a kind, the weight of each group, the length of each wire, the potentials, and for each net which of them it
 -- chooses: 0 for none, else the potential's number plus 1
@@ -16,19 +16,19 @@ pub record Cert : Type 0 where
 
 -- the lengths are as the kind has them: any, or each of them the unit
 abbrev pub HasLengths : CertKind → List ℕ → Type 0
-HasLengths Share lengths = All (λ l. l ≤ MAX_LENGTH) lengths
-HasLengths (Hop unit) lengths = (0 < unit) × (unit ≤ MAX_UNIT) × All (λ l. l ≡ unit) lengths
+HasLengths Share lengths = All (λ l. l ≤ most_length) lengths
+HasLengths (Hop unit) lengths = (0 < unit) × (unit ≤ most_unit) × All (λ l. l ≡ unit) lengths
 
 -- the potential has values, none of them too large
 pub record IsPotential (potential : List ℕ) : Type 0 where
   pub some : 0 < length potential
-  pub values : All (λ v. v ≤ MAX_POTENTIAL_VALUE) potential
+  pub values : All (λ v. v ≤ most_potential_value) potential
 
 -- the numbers keep to their ranges
 pub record IsCert (cert : Cert) : Type 0 where
-  pub weights : All (λ w. w ≤ MAX_WEIGHT) cert.weights
+  pub weights : All (λ w. w ≤ most_weight) cert.weights
   pub lengths : HasLengths cert.kind cert.lengths
-  pub potential_limit : length cert.potentials ≤ MAX_POTENTIALS
+  pub potential_limit : length cert.potentials ≤ most_potentials
   pub potentials : All IsPotential cert.potentials
   pub choices : All (λ c. c ≤ length cert.potentials) cert.choices
 

@@ -5,7 +5,7 @@ use Rattle.tdm_problem.specs.Board.{Board}
 use Rattle.tdm_problem.specs.Value.{largest}
 use Rattle.tdm_problem.specs.Sums.{sum_below}
 use Rattle.tdm_problem.specs.Roots.{root_of}
-use Rattle.bound_cert.specs.declared.limits.TheConstants.{UNIFORM_WEIGHT}
+use Rattle.bound_cert.specs.Limits.{uniform_weight}
 use Rattle.bound_cert.specs.Bound.{least_even}
 use Rattle.bound_cert.specs.Depths.{AreDepths, depth_of, group_depth}
 
@@ -19,7 +19,7 @@ holders_of board n = count_by (λ group. list_any (λ m. m == n) group) board.gr
 
 -- the root of the weight of net n, where each group has the same weight
 abbrev pub uniform_root : Board → (n : ℕ) → ℕ
-uniform_root board n = root_of (UNIFORM_WEIGHT * holders_of board n)
+uniform_root board n = root_of (uniform_weight * holders_of board n)
 
 -- the depths of all nets, by the roots of their weights
 abbrev pub rooted_depths : Board → (depths : List ℕ) → ℕ
@@ -39,7 +39,7 @@ uniform_length board depths = part_of (rooted_depths board depths) (length board
 abbrev pub share_floor : Board → (depths : List ℕ) → ℕ
 share_floor board depths =
     let long = uniform_length board depths in
-    least_even (2 * long * rooted_depths board depths - length board.wires * (long * long)) (UNIFORM_WEIGHT * length board.groups)
+    least_even (2 * long * rooted_depths board depths - length board.wires * (long * long)) (uniform_weight * length board.groups)
 
 -- the number is the floor by hops
 pub record IsHopFloor (board : Board) (floor : ℕ) : Type 0 where

@@ -1,3 +1,4 @@
+pub mod Limits
 pub mod Certificate
 pub mod Valid
 pub mod Bound

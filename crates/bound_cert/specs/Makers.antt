@@ -4,7 +4,7 @@ use Rattle.tdm_problem.specs.Board.{Board}
 use Rattle.tdm_problem.specs.Distance.{IsDistance}
 use Rattle.shortest_forest.specs.Reach.{HasNoWalk}
 use Rattle.bound_cert.specs.declared.certificate.CertKind.TheVariants.{Share, Hop}
-use Rattle.bound_cert.specs.declared.limits.TheConstants.{UNIFORM_WEIGHT}
+use Rattle.bound_cert.specs.Limits.{uniform_weight}
 use Rattle.bound_cert.specs.Certificate.{Cert, weight_of, length_of, value_at}
 use Rattle.tdm_problem.specs.Legal.{source_of}
 use Rattle.bound_cert.specs.Sources.{roots_of}
@@ -70,6 +70,6 @@ pub record IsUniformShareCert (board : Board) (cert : Cert) : Type 0 where
   pub depths : List ℕ
   pub are_depths : AreDepths board depths
   pub kind : cert.kind ≡ Share
-  pub weights : (g : ℕ) → g < length board.groups → weight_of cert g ≡ UNIFORM_WEIGHT
+  pub weights : (g : ℕ) → g < length board.groups → weight_of cert g ≡ uniform_weight
   pub lengths : (e : ℕ) → e < length board.wires → length_of cert e ≡ uniform_length board depths
   pub potentials : HasRootPotentials board cert

@@ -2,7 +2,7 @@
 ghost use Rattle.std.specs.Prelude.{◌≡◌, ◌<◌, ◌≤◌, length, slice_get, slice_index_or, All, Some};
 ghost use Rattle.bound_cert.specs.Certificate.{Cert, IsCert, IsPotential, HasLengths, weight_of, length_of, potential_of, choice_of};
 ghost use Rattle.bound_cert.specs.CertText.{listed_lengths};
-ghost use Rattle.bound_cert.specs.declared.limits.TheConstants.{MAX_WEIGHT, MAX_LENGTH, MAX_POTENTIALS, MAX_POTENTIAL_VALUE};
+ghost use Rattle.bound_cert.specs.Limits.{most_weight, most_length, most_potentials};
 
 use crate::potential::Potential;
 use std::marker::Model;
@@ -58,9 +58,9 @@ impl Certificate {
         potentials: Vec<Potential>,
         choices: Vec<u32>,
     ) -> Certificate
-        requires weights_within { All (λ w. w ≤ MAX_WEIGHT) weights.items }
+        requires weights_within { All (λ w. w ≤ most_weight) weights.items }
         requires lengths_within { HasLengths kind lengths.items }
-        requires few_potentials { length potentials.items ≤ MAX_POTENTIALS }
+        requires few_potentials { length potentials.items ≤ most_potentials }
         requires potentials_within { All IsPotential potentials.items }
         requires choices_there { All (λ c. c ≤ length potentials.items) choices.items }
         ensures { result ≡ record {
@@ -92,7 +92,7 @@ impl Certificate {
     pub fn weight(&self, g: u32) -> u64
         requires { g < length self.now.weights }
         ensures value { result ≡ weight_of self.now g }
-        ensures within { result ≤ MAX_WEIGHT }
+        ensures within { result ≤ most_weight }
     {
         self.weights[g as usize]
     }
@@ -102,7 +102,7 @@ impl Certificate {
     pub fn length(&self, e: u32) -> u64
         requires { e < length self.now.lengths }
         ensures value { result ≡ length_of self.now e }
-        ensures within { result ≤ MAX_LENGTH }
+        ensures within { result ≤ most_length }
     {
         self.lengths[e as usize]
     }
@@ -134,7 +134,7 @@ impl Certificate {
     /// How many potentials there are, at most [`MAX_POTENTIALS`](crate::MAX_POTENTIALS).
     pub fn potentials(&self) -> u32
         ensures value { result ≡ length self.now.potentials }
-        ensures within { result ≤ MAX_POTENTIALS }
+        ensures within { result ≤ most_potentials }
     {
         self.potentials.len() as u32
     }

@@ -3,20 +3,20 @@ ghost use Rattle.std.specs.Prelude.{◌≤◌, ◌<◌, Ok, IfOk};
 ghost use Rattle.bound_cert.specs.CertReading.{kind_said, count_said, header_said};
 ghost use Rattle.bound_cert.specs.CertFaults.{Leads};
 ghost use Rattle.bound_cert.specs.CertReader.{HasUnit};
-ghost use Rattle.bound_cert.specs.declared.limits.TheConstants.{MAX_POTENTIALS};
+ghost use Rattle.bound_cert.specs.Limits.{most_potentials};
 
 use crate::certificate::CertKind;
 use crate::limits::{MAX_POTENTIALS, MAX_UNIT};
 use crate::refusal::{CertFault, CertTextKind, refused};
 
-// What a header says: the kind, and how many potentials there are.
+/// What a header says: the kind, and how many potentials there are.
 #[derive(Clone, Copy)]
 pub(crate) struct Header {
     pub(crate) kind: CertKind,
     pub(crate) potentials: u32,
 }
 
-// The kind of this number, with a unit that it may have.
+/// The kind of this number, with a unit that it may have.
 fn kind_said(line: u32, kind: u64, unit: u64) -> Result<CertKind, CertFault>
     ensures said { Leads result (kind_said line kind unit) Ok }
     ensures unit { IfOk result HasUnit }
@@ -40,10 +40,10 @@ fn kind_said(line: u32, kind: u64, unit: u64) -> Result<CertKind, CertFault>
     }
 }
 
-// How many potentials there are: none where they would have no value.
+/// How many potentials there are: none where they would have no value.
 fn count_said(fpgas: u32, line: u32, count: u64) -> Result<u32, CertFault>
     ensures said { Leads result (count_said fpgas line count) Ok }
-    ensures few { IfOk result (λ count. count ≤ MAX_POTENTIALS) }
+    ensures few { IfOk result (λ count. count ≤ most_potentials) }
     ensures some { IfOk result (λ count. 0 < count → 0 < fpgas) }
 {
     if count > MAX_POTENTIALS as u64 || (fpgas == 0 && count > 0) {
@@ -52,10 +52,10 @@ fn count_said(fpgas: u32, line: u32, count: u64) -> Result<u32, CertFault>
     Ok(count as u32)
 }
 
-// What a header of these numbers says.
+/// What a header of these numbers says.
 pub(crate) fn header_said(fpgas: u32, line: u32, numbers: &[u64]) -> Result<Header, CertFault>
     ensures said { Leads result (header_said fpgas line numbers.now) Ok }
-    ensures few { IfOk result (λ header. header.potentials ≤ MAX_POTENTIALS) }
+    ensures few { IfOk result (λ header. header.potentials ≤ most_potentials) }
     ensures some { IfOk result (λ header. 0 < header.potentials → 0 < fpgas) }
     ensures kind { IfOk result (λ header. HasUnit header.kind) }
 {

@@ -2,7 +2,7 @@
 ghost use Rattle.std.specs.Prelude.{◌≡◌, ◌<◌, ◌≤◌, ◌^◌, ℕ, [], length, sum_by, slice_set, replicate, All, IfOk, MatchOption};
 ghost use Rattle.tdm_problem.specs.declared.limits.TheConstants.{MAX_FPGAS};
 ghost use Rattle.board_graph.specs.Graph.{graph_of};
-ghost use Rattle.bound_cert.specs.declared.limits.TheConstants.{MAX_POTENTIAL_VALUES};
+ghost use Rattle.bound_cert.specs.Limits.{most_potential_values};
 ghost use Rattle.bound_cert.specs.Certificate.{IsCert, IsCertFor};
 ghost use Rattle.bound_cert.specs.Valid.{IsValid};
 ghost use Rattle.bound_cert.specs.Bound.{bound_of};
@@ -37,7 +37,7 @@ pub fn hop_group_cert(
     ensures valid { IfOk result (IsValid problem.now) }
     ensures floor { IfOk result (λ cert. IsHopFloor problem.now (bound_of problem.now cert)) }
     ensures only_floor { IfOk result (λ cert. (floor : ℕ) → IsHopFloor problem.now floor → floor ≡ bound_of problem.now cert) }
-    ensures few { IfOk result (λ cert. sum_by length cert.potentials ≤ MAX_POTENTIAL_VALUES) }
+    ensures few { IfOk result (λ cert. sum_by length cert.potentials ≤ most_potential_values) }
 {
     let reach = HopReach::of(alloc, problem, graph)?;
     let weights = weights_of_deepest(alloc, problem, &reach.depths)?;

@@ -5,7 +5,7 @@ ghost use Rattle.bound_cert.specs.Certificate.{Cert, IsCertFor, HasLengths, IsPo
 ghost use Rattle.bound_cert.specs.CertReading.{number_said, potential_said, header_said, next_line, line_from, section_from, lengths_from, unless_more, cert_from, cert_of};
 ghost use Rattle.bound_cert.specs.CertFaults.{IsFaultOf, Leads};
 ghost use Rattle.bound_cert.specs.CertReader.{IsSameText, HasUnit};
-ghost use Rattle.bound_cert.specs.declared.limits.TheConstants.{MAX_WEIGHT, MAX_LENGTH, MAX_POTENTIALS, MAX_POTENTIAL_VALUE};
+ghost use Rattle.bound_cert.specs.Limits.{most_weight, most_length, most_potentials, most_potential_value};
 ghost use Rattle.bound_cert.specs.declared.refusal.CertTextKind.TheVariants.{NoHeader, MissingLine, UnknownPotential};
 
 use crate::certificate::{CertKind, Certificate};
@@ -28,7 +28,8 @@ pub const MAX_CERT_BYTES: usize = 1_073_741_824;
 /// since it is refused all the same.
 ///
 /// Refused where the text is no certificate for the problem, for the first line at fault and the first of the
-/// [`CertTextKind`]s that holds there. NoMemory where memory is wanting.
+/// [`CertTextKind`]s that holds there; but a line behind the last one is ExtraLine, whatever it holds, and a text of
+/// more than 2^30 bytes is TooLong, before its lines are looked at. NoMemory where memory is wanting.
 pub fn read_cert(alloc: Global, bytes: &[u8], problem: &Problem) -> Result<Certificate, CertFault>
     ensures ok { IfOk result (λ cert. cert_of problem.now bytes.now ≡ Ok cert) }
     ensures for_problem { IfOk result (IsCertFor problem.now) }
@@ -42,7 +43,7 @@ pub fn read_cert(alloc: Global, bytes: &[u8], problem: &Problem) -> Result<Certi
     reader.read_whole(alloc, problem)
 }
 
-// The number of a line that has one, at most the limit.
+/// The number of a line that has one, at most the limit.
 fn number_said(
     above: CertTextKind,
     limit: u64,
@@ -63,22 +64,22 @@ fn number_said(
     }
 }
 
-// A text that is being read.
+/// A text that is being read.
 #[derive(Drop)]
 struct Reader<'a> {
     lines: LineCursor<'a>,
-    // The numbers of the line that was read last.
+    /// The numbers of the line that was read last.
     numbers: Vec<u64>,
-    // The line that a missing line is named by.
+    /// The line that a missing line is named by.
     after: u32,
 }
 
 impl<'a> Reader<'a> {
-    // A reader before the first line of a text of at most 2^30 bytes.
+    /// A reader before the first line of a text of at most 2^30 bytes.
     fn new(alloc: Global, bytes: &'a [u8]) -> Reader<'a>
         requires { length bytes.now ≤ 2 ^ 30 }
-        ensures lines { result.lines.lines ≡ lines MAX_POTENTIAL_VALUE bytes.now }
-        ensures largest { result.lines.max ≡ MAX_POTENTIAL_VALUE }
+        ensures lines { result.lines.lines ≡ lines most_potential_value bytes.now }
+        ensures largest { result.lines.max ≡ most_potential_value }
         ensures after { result.after ≡ line_after bytes.now }
     {
         Reader {
@@ -88,8 +89,8 @@ impl<'a> Reader<'a> {
         }
     }
 
-    // Reads the next line, unless its tokens have a fault, and answers its number. `missing` is the fault of a
-    // text that has no further line.
+    /// Reads the next line, unless its tokens have a fault, and answers its number. `missing` is the fault of a
+    /// text that has no further line.
     fn next_line(&mut self, missing: CertTextKind) -> Result<u32, CertFault>
         ensures read { Leads result (next_line self.old.after missing self.old.lines.lines)
             (λ number. Ok (
@@ -111,12 +112,12 @@ impl<'a> Reader<'a> {
         }
     }
 
-    // Reads the header.
+    /// Reads the header.
     fn read_header(&mut self, fpgas: u32) -> Result<Header, CertFault>
         ensures read { Leads result
             (line_from self.old.after NoHeader (header_said fpgas) self.old.lines.lines)
             (λ header. Ok (header, self.new.lines.lines)) }
-        ensures few { IfOk result (λ header. header.potentials ≤ MAX_POTENTIALS) }
+        ensures few { IfOk result (λ header. header.potentials ≤ most_potentials) }
         ensures some { IfOk result (λ header. 0 < header.potentials → 0 < fpgas) }
         ensures kind { IfOk result (λ header. HasUnit header.kind) }
         ensures kept { IsSameText self.old self.new }
@@ -125,7 +126,7 @@ impl<'a> Reader<'a> {
         header_said(fpgas, line, &self.numbers)
     }
 
-    // Reads a line of one number, at most the limit.
+    /// Reads a line of one number, at most the limit.
     fn read_number(&mut self, above: CertTextKind, limit: u64) -> Result<u64, CertFault>
         ensures read { Leads result
             (line_from self.old.after MissingLine (number_said above limit) self.old.lines.lines)
@@ -137,7 +138,7 @@ impl<'a> Reader<'a> {
         number_said(above, limit, line, &self.numbers)
     }
 
-    // Reads so many lines of one number, each at most the limit.
+    /// Reads so many lines of one number, each at most the limit.
     fn read_numbers(
         &mut self,
         alloc: Global,
@@ -162,7 +163,7 @@ impl<'a> Reader<'a> {
         Ok(numbers)
     }
 
-    // Reads the lengths of so many wires, or makes them where each is the unit.
+    /// Reads the lengths of so many wires, or makes them where each is the unit.
     fn read_lengths(
         &mut self,
         alloc: Global,
@@ -185,7 +186,7 @@ impl<'a> Reader<'a> {
         }
     }
 
-    // Reads the line of a potential.
+    /// Reads the line of a potential.
     fn read_potential(&mut self, alloc: Global, fpgas: u32) -> Result<Potential, CertFault>
         ensures read { Leads result
             (line_from self.old.after MissingLine (potential_said fpgas) self.old.lines.lines)
@@ -203,14 +204,14 @@ impl<'a> Reader<'a> {
         Ok(Potential::new(values))
     }
 
-    // Reads the lines of so many potentials.
+    /// Reads the lines of so many potentials.
     fn read_potentials(
         &mut self,
         alloc: Global,
         fpgas: u32,
         count: u32,
     ) -> Result<Vec<Potential>, CertFault>
-        requires largest { self.old.lines.max ≡ MAX_POTENTIAL_VALUE }
+        requires largest { self.old.lines.max ≡ most_potential_value }
         requires some { 0 < count → 0 < fpgas }
         ensures read { Leads result
             (section_from self.old.after (potential_said fpgas) count self.old.lines.lines)
@@ -231,7 +232,7 @@ impl<'a> Reader<'a> {
         Ok(potentials)
     }
 
-    // Reads the choices of so many nets.
+    /// Reads the choices of so many nets.
     fn read_choices(
         &mut self,
         alloc: Global,
@@ -256,7 +257,7 @@ impl<'a> Reader<'a> {
         Ok(choices)
     }
 
-    // Tells that no line is left.
+    /// Tells that no line is left.
     fn read_end(&mut self) -> Result<(), CertFault>
         ensures { (cert : Cert) → Leads result
             (unless_more cert self.old.lines.lines) (λ _. Ok cert) }
@@ -267,9 +268,9 @@ impl<'a> Reader<'a> {
         }
     }
 
-    // Reads the whole text.
+    /// Reads the whole text.
     fn read_whole(&mut self, alloc: Global, problem: &Problem) -> Result<Certificate, CertFault>
-        requires { self.old.lines.max ≡ MAX_POTENTIAL_VALUE }
+        requires { self.old.lines.max ≡ most_potential_value }
         ensures read { Leads result
             (cert_from self.old.after problem.now self.old.lines.lines) Ok }
         ensures for_problem { IfOk result (IsCertFor problem.now) }

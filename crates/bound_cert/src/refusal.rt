@@ -6,7 +6,10 @@ ghost use Rattle.bound_cert.specs.declared.refusal.CertFault.TheVariants.{NoMemo
 use std::alloc::AllocError;
 use thiserror::Error;
 
-/// What is wrong with a text that is no certificate. On one line, the earlier kind is named.
+/// What is wrong with a text that is no certificate.
+///
+/// Of the kinds that hold of a line, the earlier one here is named. But a line behind the last one is ExtraLine, whatever
+/// it holds, and a text of too many bytes is TooLong, whatever its lines hold.
 #[derive(Clone, Copy, Debug, PartialEq, Eq)]
 pub enum CertTextKind {
     /// No line of the text has a token.
@@ -92,7 +95,7 @@ impl From<AllocError> for CertFault {
     }
 }
 
-// A refusal of this kind, which names this line.
+/// A refusal of this kind, which names this line.
 pub(crate) fn refused(kind: CertTextKind, line: u32) -> CertFault
     ensures { result ≡ CertFault.Refused (record { kind = kind; line = line }) }
 {

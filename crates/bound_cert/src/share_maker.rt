@@ -4,7 +4,7 @@ ghost use Rattle.tdm_problem.specs.Sums.{sum_below};
 ghost use Rattle.tdm_problem.specs.Roots.{root_of};
 ghost use Rattle.tdm_problem.specs.declared.limits.TheConstants.{MAX_FPGAS, MAX_NETS, MAX_GROUPS};
 ghost use Rattle.board_graph.specs.Graph.{graph_of};
-ghost use Rattle.bound_cert.specs.declared.limits.TheConstants.{MAX_POTENTIAL_VALUES, UNIFORM_WEIGHT};
+ghost use Rattle.bound_cert.specs.Limits.{most_potential_values, uniform_weight};
 ghost use Rattle.bound_cert.specs.Certificate.{IsCert, IsCertFor};
 ghost use Rattle.bound_cert.specs.Valid.{IsValid};
 ghost use Rattle.bound_cert.specs.Bound.{bound_of};
@@ -44,7 +44,7 @@ pub fn uniform_share_cert(
     ensures valid { IfOk result (IsValid problem.now) }
     ensures floor { IfOk result (λ cert. IsShareFloor problem.now (bound_of problem.now cert)) }
     ensures only_floor { IfOk result (λ cert. (floor : ℕ) → IsShareFloor problem.now floor → floor ≡ bound_of problem.now cert) }
-    ensures few { IfOk result (λ cert. sum_by length cert.potentials ≤ MAX_POTENTIAL_VALUES) }
+    ensures few { IfOk result (λ cert. sum_by length cert.potentials ≤ most_potential_values) }
 {
     let mut reach = HopReach::of(alloc, problem, graph)?;
     let wire_length = uniform_length(alloc, problem, &reach.depths)?;
@@ -79,7 +79,7 @@ fn rooted_depths(holders: &[u32], depths: &[u64]) -> u64
     requires few { length depths.now ≤ MAX_NETS }
     requires few_holders { All (λ count. count ≤ MAX_GROUPS) holders.now }
     requires small { All (λ h. h ≤ MAX_FPGAS) depths.now }
-    ensures total { result ≡ sum_below (length depths.now) (λ n. root_of (UNIFORM_WEIGHT * slice_index holders.now n) * slice_index depths.now n) }
+    ensures total { result ≡ sum_below (length depths.now) (λ n. root_of (uniform_weight * slice_index holders.now n) * slice_index depths.now n) }
     ensures within { (most : ℕ) → All (λ h. h ≤ most) depths.now → result ≤ 2 ^ 40 * most }
 {
     let mut total = 0;
@@ -93,7 +93,7 @@ fn rooted_depths(holders: &[u32], depths: &[u64]) -> u64
 fn rooted_depth(holders: u32, depth: u64) -> u64
     requires few { holders ≤ MAX_GROUPS }
     requires small { depth ≤ MAX_FPGAS }
-    ensures value { result ≡ root_of (UNIFORM_WEIGHT * holders) * depth }
+    ensures value { result ≡ root_of (uniform_weight * holders) * depth }
     ensures within { result ≤ 2 ^ 20 * depth }
 {
     let root = isqrt(UNIFORM_WEIGHT * u64::from(holders));

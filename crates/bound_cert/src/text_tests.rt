@@ -6,7 +6,7 @@ use std::test::Fail;
 use tdm_desk::{Desk, DeskFault, MemoryDesk, OutSlot};
 use tdm_problem::{Problem, ProblemDraft, Wire};
 
-// Two FPGAs with a wire between them, and a group of one net on both.
+/// Two FPGAs with a wire between them, and a group of one net on both.
 fn board(alloc: Global) -> Result<Problem, Fail> {
     let mut draft = ProblemDraft::new(alloc, 2);
     draft.push_wire(Wire { a: 0, b: 1 })?;
@@ -15,7 +15,7 @@ fn board(alloc: Global) -> Result<Problem, Fail> {
     Ok(draft.into_problem())
 }
 
-// The same board with two further nets in the group.
+/// The same board with two further nets in the group.
 fn board_of_three_nets(alloc: Global) -> Result<Problem, Fail> {
     let mut draft = ProblemDraft::new(alloc, 2);
     draft.push_wire(Wire { a: 0, b: 1 })?;
@@ -26,6 +26,7 @@ fn board_of_three_nets(alloc: Global) -> Result<Problem, Fail> {
     Ok(draft.into_problem())
 }
 
+/// The text is refused, with this kind and this line.
 fn assert_refused(
     rt: &impl Abort,
     alloc: Global,
@@ -100,13 +101,14 @@ fn refuses_the_first_line_at_fault(rt: HostRuntime) -> Result<(), Fail> {
     Ok(())
 }
 
-// A desk in memory with the file of the certificate.
+/// A desk in memory with the file of the certificate.
 fn written(alloc: Global, cert: &Certificate) -> Result<MemoryDesk, Fail> {
     let mut desk = MemoryDesk::new(alloc);
     write_file(&mut desk, cert)?;
     Ok(desk)
 }
 
+/// Writes the certificate to a new file, which stays open.
 #[tactic(auto, using(tdm_desk::proofs::SeenLaws::after_calls))]
 fn write_file<D: Desk>(desk: &mut D, cert: &Certificate) -> Result<(), DeskFault> {
     desk.create(OutSlot::Out0, "c")?;
@@ -114,7 +116,7 @@ fn write_file<D: Desk>(desk: &mut D, cert: &Certificate) -> Result<(), DeskFault
     Ok(())
 }
 
-// The text reads as a certificate of this kind, which is written as the canonical text.
+/// The text reads as a certificate of this kind, which is written as the canonical text.
 fn assert_canonical(
     rt: &impl Abort,
     alloc: Global,

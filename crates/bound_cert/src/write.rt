@@ -38,7 +38,7 @@ pub fn write_cert<D: Desk>(desk: &mut D, slot: OutSlot, cert: &Certificate) -> R
     Ok(())
 }
 
-// The number of a kind.
+/// The number of a kind.
 fn number_of_kind(kind: CertKind) -> u64
     ensures { result ≡ number_of_kind kind }
 {
@@ -48,7 +48,7 @@ fn number_of_kind(kind: CertKind) -> u64
     }
 }
 
-// The unit of a kind, 0 for the one that has none.
+/// The unit of a kind, 0 for the one that has none.
 fn unit_of_kind(kind: CertKind) -> u64
     ensures { result ≡ unit_of_kind kind }
 {
@@ -58,7 +58,7 @@ fn unit_of_kind(kind: CertKind) -> u64
     }
 }
 
-// Adds the header to the text.
+/// Adds the header to the text.
 fn put_header<D: Desk>(
     desk: &mut D,
     slot: OutSlot,
@@ -85,7 +85,7 @@ fn put_header<D: Desk>(
     Ok(())
 }
 
-// Adds a line for each potential to the text.
+/// Adds a line for each potential to the text.
 fn put_potentials<D: Desk>(
     desk: &mut D,
     slot: OutSlot,
@@ -108,7 +108,7 @@ fn put_potentials<D: Desk>(
     Ok(())
 }
 
-// Adds a line for each choice to the text.
+/// Adds a line for each choice to the text.
 fn put_choices<D: Desk>(
     desk: &mut D,
     slot: OutSlot,

@@ -3,7 +3,7 @@ ghost use Rattle.std.specs.Prelude.{◌≡◌, ◌+◌, ◌*◌, ◌<◌, ◌≤
 ghost use Rattle.tdm_problem.specs.Sums.{sum_below};
 ghost use Rattle.bound_cert.specs.Certificate.{IsCertFor, IsPotential};
 ghost use Rattle.bound_cert.specs.Bound.{spread, net_spread};
-ghost use Rattle.bound_cert.specs.declared.limits.TheConstants.{MAX_POTENTIAL_VALUE};
+ghost use Rattle.bound_cert.specs.Limits.{most_potential_value};
 
 use bound_cert::Certificate;
 use tdm_problem::Problem;
@@ -28,7 +28,7 @@ fn spread_of_net(problem: &Problem, cert: &Certificate, n: u32) -> u64
     requires is_for { IsCertFor problem.now cert.now }
     requires there { n < length problem.now.nets }
     ensures value { result ≡ net_spread problem.now cert.now n }
-    ensures within { result ≤ MAX_POTENTIAL_VALUE }
+    ensures within { result ≤ most_potential_value }
 {
     let choice = cert.choice(n);
     if choice == 0 {
@@ -43,7 +43,7 @@ fn spread_over(potential: &[u64], fpgas: &[u32]) -> u64
     requires some { 0 < length fpgas.now }
     requires there { All (λ f. f < length potential.now) fpgas.now }
     ensures value { result ≡ spread potential.now fpgas.now }
-    ensures within { result ≤ MAX_POTENTIAL_VALUE }
+    ensures within { result ≤ most_potential_value }
 {
     let mut least = potential[fpgas[0] as usize];
     let mut most = least;

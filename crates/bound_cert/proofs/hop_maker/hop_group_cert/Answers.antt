@@ -1,7 +1,7 @@
 use Rattle.std.proofs.Common.{◌≡◌, ℕ, ◌≤◌, List, length, replicate, sym, ap, ◌∙◌, subst, arith}
 use Rattle.std.specs.Prelude.{sum_by}
 use Rattle.tdm_problem.specs.declared.limits.TheConstants.{MAX_FPGAS}
-use Rattle.bound_cert.specs.declared.limits.TheConstants.{MAX_POTENTIAL_VALUES}
+use Rattle.bound_cert.specs.Limits.{most_potential_values}
 use Rattle.bound_cert.specs.Certificate.{Cert}
 use Rattle.bound_cert.specs.Bound.{bound_of}
 use Rattle.bound_cert.proofs.FloorLaws.{hop_floor_unique}
@@ -53,4 +53,4 @@ pub returns-clause-few : goal.returns-clause-few
 returns-clause-few c =
     let few = few_values c.args.problem.now (λ _. 1) c.in_ok-reach.reach.potentials.items c.in_ok-reach.ensures.potentials c.wires.ensures.board c.in_ok-reach.ensures.few in
     let potentials : c.from_parts.result.potentials ≡ c.in_ok-reach.reach.potentials.items = ap (λ (cert : Cert). cert.potentials) c.from_parts.ensures in
-    subst (λ (ps : List (List ℕ)). sum_by length ps ≤ MAX_POTENTIAL_VALUES) (sym potentials) few
+    subst (λ (ps : List (List ℕ)). sum_by length ps ≤ most_potential_values) (sym potentials) few

@@ -1,7 +1,7 @@
 use Rattle.std.proofs.Common.{◌≡◌, ℕ, List, replicate, sym, ap, ◌∙◌, subst, arith}
 use Rattle.std.specs.Vec.{with_items}
 use Rattle.std.proofs.lemmas.List.{with_items_is}
-use Rattle.bound_cert.specs.declared.limits.TheConstants.{UNIFORM_WEIGHT}
+use Rattle.bound_cert.specs.Limits.{uniform_weight}
 use Rattle.bound_cert.specs.Floors.{uniform_length}
 use Rattle.bound_cert.specs.Scaling.{AreScaled}
 use Rattle.bound_cert.specs.Bound.{bound_of}
@@ -21,7 +21,7 @@ parts c =
       is_board = c.groups.ensures.board;
       unit_is = c.in_ok-wire_length.ensures.value ∙ ap (λ (hs : List ℕ). uniform_length c.args.problem.now hs) depths;
       unit_short = c.in_ok-wire_length.ensures.within;
-      weights_are = c.in_ok-weights.ensures ∙ ap (λ (n : ℕ). replicate n UNIFORM_WEIGHT) c.groups.ensures.value;
+      weights_are = c.in_ok-weights.ensures ∙ ap (λ (n : ℕ). replicate n uniform_weight) c.groups.ensures.value;
       lengths_are = c.in_ok-lengths.ensures ∙ ap (λ (n : ℕ). replicate n unit) c.wires.ensures.value;
       from_hops = c.in_ok-reach.ensures.potentials;
       few = c.in_ok-reach.ensures.few;
@@ -53,7 +53,7 @@ parts_at_end c =
       is_board = c.groups.ensures.board;
       unit_is = c.in_ok-wire_length.ensures.value ∙ ap (λ (hs : List ℕ). uniform_length c.args.problem.now hs) depths;
       unit_short = c.in_ok-wire_length.ensures.within;
-      weights_are = c.in_ok-weights.ensures ∙ ap (λ (n : ℕ). replicate n UNIFORM_WEIGHT) c.groups.ensures.value;
+      weights_are = c.in_ok-weights.ensures ∙ ap (λ (n : ℕ). replicate n uniform_weight) c.groups.ensures.value;
       lengths_are = c.in_ok-lengths.ensures ∙ ap (λ (n : ℕ). replicate n unit) c.wires.ensures.value;
       from_hops = c.in_ok-reach.ensures.potentials;
       few = c.in_ok-reach.ensures.few;

@@ -1,7 +1,7 @@
 use Rattle.std.proofs.Common.{◌≡◌, ◌+◌, ◌-◌, ◌++◌, ◌∷◌, [], ◌<◌, ◌≤◌, List, length, All, ℕ, suc, ◌∙◌, arith, rules, subst}
 use Rattle.std.proofs.lemmas.Result.{err_from_is_err_and}
 use Rattle.std.proofs.lemmas.List.Elements.{All-push}
-use Rattle.bound_cert.specs.declared.limits.TheConstants.{MAX_POTENTIAL_VALUE}
+use Rattle.bound_cert.specs.Limits.{most_potential_value}
 use Rattle.bound_cert.specs.Certificate.{IsPotential}
 use Rattle.bound_cert.specs.CertReading.{potential_said}
 use Rattle.bound_cert.proofs.CertSections.{ReadsSection, reads_more, reads_fault}
@@ -23,7 +23,7 @@ loop-preserved c =
     let items : c.push.new.self.items ≡ c.loop.potentials.items ++ c.in_ok-potential.potential ∷ [] = search rules in
     let values : List ℕ = c.in_ok-potential.potential in
     let some : 0 < c.args.fpgas = c.requires.some (omega arith) in
-    let largest : c.loop.self.lines.max ≡ MAX_POTENTIAL_VALUE = c.loop.invariant.0.kept.largest ∙ c.requires.largest in
+    let largest : c.loop.self.lines.max ≡ most_potential_value = c.loop.invariant.0.kept.largest ∙ c.requires.largest in
     let Within : ℕ → Type 0 = λ max. All (λ v. v ≤ max) values in
     let is : IsPotential values = record { some = omega (arith, some, c.in_ok-potential.ensures.count); values = subst Within largest c.in_ok-potential.ensures.within } in
     rw items (
