@@ -1,9 +1,11 @@
 //! Certificates, their texts and their bounds, computed on small boards.
-ghost use Rattle.std.specs.Prelude.{◌≡◌, [], ◌∷◌, codes, Ok, Err};
+ghost use Rattle.std.specs.Prelude.{◌≡◌, ◌-◌, ◌^◌, [], ◌∷◌, codes, Ok, Err};
 ghost use Rattle.tdm_problem.specs.Samples.{pair, shared, star};
 ghost use Rattle.bound_cert.specs.Bound.{bound_of, least_even, smallest, spread};
-ghost use Rattle.bound_cert.specs.CertReading.{cert_of};
+ghost use Rattle.bound_cert.specs.CertReading.{cert_of, count_said};
 ghost use Rattle.bound_cert.specs.CertText.{cert_text};
+ghost use Rattle.bound_cert.specs.declared.certificate.CertKind.TheVariants.{Hop};
+ghost use Rattle.bound_cert.specs.declared.limits.TheConstants.{MAX_LENGTH, MAX_POTENTIALS, MAX_POTENTIAL_VALUE, MAX_POTENTIAL_VALUES, MAX_UNIT, MAX_WEIGHT, UNIFORM_WEIGHT};
 ghost use Rattle.bound_cert.specs.declared.refusal.CertTextKind.TheVariants.{BadKind, BadNumber, BadUnit, BadVersion, CountLimit, ExtraLine, LengthLimit, MissingLine, NoHeader, NumberTooLarge, UnknownPotential, WeightLimit, WrongCount};
 ghost use Rattle.bound_cert.specs.Floors.{hop_floor, part_of};
 ghost use Rattle.bound_cert.specs.Sources.{roots_of};
@@ -60,12 +62,36 @@ fn the_first_fault_decides()
     ensures bad_kind { cert_of pair (codes "1 3 0 0\n") ≡ Err (record { kind = BadKind; line = 1 }) }
     ensures bad_unit { cert_of pair (codes "1 1 1 0\n") ≡ Err (record { kind = BadUnit; line = 1 }) }
     ensures no_unit { cert_of pair (codes "1 2 0 0\n") ≡ Err (record { kind = BadUnit; line = 1 }) }
-    ensures count_limit { cert_of pair (codes "1 1 0 5000\n") ≡ Err (record { kind = CountLimit; line = 1 }) }
+    ensures count_limit { cert_of pair (codes "1 1 0 4097\n") ≡ Err (record { kind = CountLimit; line = 1 }) }
     ensures weight_limit { cert_of pair (codes "1 1 0 0\n1099511627777\n") ≡ Err (record { kind = WeightLimit; line = 2 }) }
     ensures length_limit { cert_of pair (codes "1 1 0 0\n1\n281474976710657\n") ≡ Err (record { kind = LengthLimit; line = 3 }) }
     ensures unknown_potential { cert_of pair (codes "1 1 0 1\n1\n1\n0 1\n2\n") ≡ Err (record { kind = UnknownPotential; line = 5 }) }
     ensures missing_line { cert_of pair (codes "1 1 0 0\n1\n1\n") ≡ Err (record { kind = MissingLine; line = 4 }) }
     ensures extra_line { cert_of pair (codes "1 1 0 0\n1\n1\n0\nx") ≡ Err (record { kind = ExtraLine; line = 5 }) }
+{}
+
+/// Numbers at their limits are no fault, and one more is: the faults above have a weight, a length, a value and a choice
+/// of one more.
+fn limits_are_exact()
+    ensures unit { cert_of pair (codes "1 2 1048576 0\n1\n0\n") ≡ Ok (record { kind = Hop 1048576; weights = 1 ∷ []; lengths = 1048576 ∷ []; potentials = []; choices = 0 ∷ [] }) }
+    ensures above_unit { cert_of pair (codes "1 2 1048577 0\n1\n0\n") ≡ Err (record { kind = BadUnit; line = 1 }) }
+    ensures potentials { count_said 2 1 4096 ≡ Ok 4096 }
+    ensures above_potentials { count_said 2 1 4097 ≡ Err (record { kind = CountLimit; line = 1 }) }
+    ensures potentials_of_nothing { count_said 0 1 1 ≡ Err (record { kind = CountLimit; line = 1 }) }
+    ensures weight_and_length { cert_of pair (codes "1 1 0 0\n1099511627776\n281474976710656\n0\n") ≡ Ok (record (wire_cert 1099511627776 281474976710656 0 0 (0 ∷ [])) { potentials = [] }) }
+    ensures value { cert_of pair (codes "1 1 0 1\n1\n1\n0 1152921504606846975\n1\n") ≡ Ok (wire_cert 1 1 0 1152921504606846975 (1 ∷ [])) }
+    ensures choice { cert_of pair (codes "1 1 0 1\n1\n1\n0 1\n1\n") ≡ Ok (wire_cert 1 1 0 1 (1 ∷ [])) }
+{}
+
+/// The code's limits are those of the definitions.
+fn the_limits_of_the_code()
+    ensures weight { MAX_WEIGHT ≡ 2 ^ 40 }
+    ensures length { MAX_LENGTH ≡ 2 ^ 48 }
+    ensures unit { MAX_UNIT ≡ 2 ^ 20 }
+    ensures potentials { MAX_POTENTIALS ≡ 4096 }
+    ensures potential_value { MAX_POTENTIAL_VALUE ≡ 2 ^ 60 - 1 }
+    ensures potential_values { MAX_POTENTIAL_VALUES ≡ 2 ^ 24 }
+    ensures uniform_weight { UNIFORM_WEIGHT ≡ 2 ^ 20 }
 {}
 
 /// The sources of nets, each once, and the floor by hops of the star, whose net is two hops deep.
