@@ -4,6 +4,8 @@
 
 mod answer;
 mod bound;
+#[cfg(test)]
+mod definitions;
 mod net_weights;
 mod spread;
 mod steep;

@@ -36,7 +36,7 @@ fn star(alloc: Global) -> Result<Problem, AllocError> {
     Ok(draft.into_problem())
 }
 
-/// Whether a certificate with this text is accepted for the problem with this bound.
+/// Whether a certificate with this text is steep nowhere, and accepted for the problem with this bound.
 fn is_accepted(
     alloc: Global,
     problem: Result<Problem, AllocError>,
@@ -45,7 +45,10 @@ fn is_accepted(
 ) -> Result<bool, CertFault> {
     let problem = problem?;
     let cert = read_cert(alloc, text, &problem)?;
-    Ok(check(alloc, &problem, &cert)? == CheckAnswer::Accepted { bound })
+    Ok(
+        first_steep(&problem, &cert).is_none()
+            && check(alloc, &problem, &cert)? == CheckAnswer::Accepted { bound },
+    )
 }
 
 /// Whether a certificate with this text is rejected for the problem, first at this potential and wire.
