@@ -73,7 +73,7 @@ bounds-hold board_text cert_text board cert described certified valid routing le
     bound_of-le_value board cert routing (accepted-board board_text board described) (accepted-cert board cert_text cert certified) valid legal
 
 pub check-bounded : (before after : Seen) (name cert : Name) (files : Files) → files_of before ≡ Some files → CheckEnds before after name cert status.Ok → IsBounded files name cert before after
-check-bounded before after name cert files told (inl ends) = absurd ends
+check-bounded before after name cert files told (inl (ends, _)) = absurd ends
 check-bounded before after name cert files told (inr (board, is, inl ends)) = absurd ends
 check-bounded before after name cert files told (inr (board, is, inr (certificate, certified, ends))) =
     let board_file = is files told in
@@ -90,7 +90,7 @@ check-bounded before after name cert files told (inr (board, is, inr (certificat
     }
 
 pub check-rejected : (before after : Seen) (name cert : Name) (files : Files) → files_of before ≡ Some files → CheckEnds before after name cert status.CertRejected → IsRejected files name cert before after
-check-rejected before after name cert files told (inl ends) = absurd ends
+check-rejected before after name cert files told (inl (ends, _)) = absurd ends
 check-rejected before after name cert files told (inr (board, is, inl ends)) = absurd ends
 check-rejected before after name cert files told (inr (board, is, inr (certificate, certified, ends))) = record {
   board = board;

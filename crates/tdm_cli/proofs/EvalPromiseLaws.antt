@@ -68,7 +68,7 @@ eval-exact before after name solution files told answer ends called = exact-by (
 -- ---- what Ok and Illegal say
 
 pub eval-valued : (before after : Seen) (name solution : Name) (files : Files) → files_of before ≡ Some files → EvalEnds before after name solution status.Ok → (value : ℕ) × IsJudged files name solution before after (Legal value)
-eval-valued before after name solution files told (inl ends) = absurd ends
+eval-valued before after name solution files told (inl (ends, _)) = absurd ends
 eval-valued before after name solution files told (inr (board, is, inl ends)) = absurd ends
 eval-valued before after name solution files told (inr (board, is, inr (routing, proposed, ends))) = (
   value_of board routing,
@@ -90,7 +90,7 @@ not-legal board routing (BadRatio net wire ratio) right broken says = says
 not-legal board routing (Overfull wire) right broken says = says
 
 pub eval-violation : (before after : Seen) (name solution : Name) (files : Files) → files_of before ≡ Some files → EvalEnds before after name solution status.Illegal → (verdict : Verdict) × (SaysLegal verdict → ⊥) × IsJudged files name solution before after verdict
-eval-violation before after name solution files told (inl ends) = absurd ends
+eval-violation before after name solution files told (inl (ends, _)) = absurd ends
 eval-violation before after name solution files told (inr (board, is, inl ends)) = absurd ends
 eval-violation before after name solution files told (inr (board, is, inr (routing, proposed, ends))) = (
   ends.0,

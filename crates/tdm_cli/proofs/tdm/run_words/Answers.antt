@@ -1,6 +1,7 @@
 use Rattle.std.proofs.Common.{refl, subst, codes}
 use Rattle.tdm_cli.specs.Words.{is_route, is_eval, is_check}
 use Rattle.tdm_cli.specs.Ends.{UsageEnds}
+use Rattle.tdm_cli.specs.EvalEnds.{EvalEnds}
 use Rattle.tdm_cli.specs.CheckEnds.{CheckEnds}
 use Rattle.tdm_cli.proofs.WordLaws.{names-are}
 use Rattle.tdm_cli.proofs.ChangeLaws.{says_nothing}
@@ -35,3 +36,10 @@ returns-in-Some-Check-clause-check g c = λ board cert is.
     let new = g.D.Desk.seen c.check.new.desk in
     let names = names-are (codes "check") _ _ _ board cert (rw c.in-Some-Check.field-0-is at c.in-Some-Check.ensures.found) is in
     subst (λ b. CheckEnds old new b cert c.check.result) names.0 (subst (λ n. CheckEnds old new c.in-Some-Check.board.now n c.check.result) names.1 c.check.ensures.ends)
+
+pub returns-in-Some-Eval-clause-eval : goal.returns-in-Some-Eval-clause-eval
+returns-in-Some-Eval-clause-eval g c = λ board solution is.
+    let old = g.D.Desk.seen c.args.desk.now in
+    let new = g.D.Desk.seen c.eval.new.desk in
+    let names = names-are (codes "eval") _ _ _ board solution (rw c.in-Some-Eval.field-0-is at c.in-Some-Eval.ensures.found) is in
+    subst (λ b. EvalEnds old new b solution c.eval.result) names.0 (subst (λ n. EvalEnds old new c.in-Some-Eval.board.now n c.eval.result) names.1 c.eval.ensures.ends)
