@@ -5,7 +5,7 @@ ghost use Rattle.bound_cert.specs.Bound.{bound_of, least_even, smallest, spread}
 ghost use Rattle.bound_cert.specs.CertReading.{cert_of, count_said};
 ghost use Rattle.bound_cert.specs.CertText.{cert_text};
 ghost use Rattle.bound_cert.specs.declared.certificate.CertKind.TheVariants.{Hop};
-ghost use Rattle.bound_cert.specs.declared.limits.TheConstants.{MAX_LENGTH, MAX_POTENTIALS, MAX_POTENTIAL_VALUE, MAX_POTENTIAL_VALUES, MAX_UNIT, MAX_WEIGHT, UNIFORM_WEIGHT};
+ghost use Rattle.bound_cert.specs.declared.limits.TheConstants.{MAX_LENGTH, MAX_POTENTIALS, MAX_POTENTIAL_VALUE, MAX_UNIT, MAX_WEIGHT, UNIFORM_WEIGHT};
 ghost use Rattle.bound_cert.specs.declared.refusal.CertTextKind.TheVariants.{BadKind, BadNumber, BadUnit, BadVersion, CountLimit, ExtraLine, LengthLimit, MissingLine, NoHeader, NumberTooLarge, UnknownPotential, WeightLimit, WrongCount};
 ghost use Rattle.bound_cert.specs.Floors.{hop_floor, part_of};
 ghost use Rattle.bound_cert.specs.Sources.{roots_of};
@@ -90,7 +90,6 @@ fn the_limits_of_the_code()
     ensures unit { MAX_UNIT ≡ 2 ^ 20 }
     ensures potentials { MAX_POTENTIALS ≡ 4096 }
     ensures potential_value { MAX_POTENTIAL_VALUE ≡ 2 ^ 60 - 1 }
-    ensures potential_values { MAX_POTENTIAL_VALUES ≡ 2 ^ 24 }
     ensures uniform_weight { UNIFORM_WEIGHT ≡ 2 ^ 20 }
 {}
 

@@ -31,8 +31,7 @@ pub use hop_maker::hop_group_cert;
 pub use laws::{bound_is_least, dual_bound, spread};
 pub use laws_text::{a_text_says_a_certificate, cut_text_says_the_same, reads_back, text_is_short};
 pub use limits::{
-    MAX_LENGTH, MAX_POTENTIAL_VALUE, MAX_POTENTIAL_VALUES, MAX_POTENTIALS, MAX_UNIT, MAX_WEIGHT,
-    UNIFORM_WEIGHT,
+    MAX_LENGTH, MAX_POTENTIAL_VALUE, MAX_POTENTIALS, MAX_UNIT, MAX_WEIGHT, UNIFORM_WEIGHT,
 };
 pub use read::{MAX_CERT_BYTES, read_cert};
 pub use refusal::{CertFault, CertRefusal, CertTextKind};

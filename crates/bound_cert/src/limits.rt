@@ -17,6 +17,3 @@ pub const MAX_POTENTIAL_VALUE: u64 = 1_152_921_504_606_846_975;
 
 /// The weight of each group where all have the same: 2^20.
 pub const UNIFORM_WEIGHT: u64 = 1_048_576;
-
-/// The most values that all potentials of a certificate for a problem have together: 2^24.
-pub const MAX_POTENTIAL_VALUES: u64 = 16_777_216;

@@ -1,7 +1,7 @@
 -- The certificate that `route` writes: the one of two with the greater bound.
 use Rattle.std.specs.Prelude.{◌≡◌, ◌⊎◌, ℕ, ◌<◌, ◌≤◌, length, sum_by}
 use Rattle.tdm_problem.specs.Board.{Board}
-use Rattle.bound_cert.specs.declared.limits.TheConstants.{MAX_POTENTIAL_VALUES}
+use Rattle.bound_cert.specs.Limits.{most_potential_values}
 use Rattle.bound_cert.specs.Certificate.{Cert, IsCert, IsCertFor}
 use Rattle.bound_cert.specs.Valid.{IsValid}
 use Rattle.bound_cert.specs.Bound.{bound_of}
@@ -14,7 +14,7 @@ pub record IsProof (board : Board) (cert : Cert) : Type 0 where
   pub within : IsCert cert
   pub for_board : IsCertFor board cert
   pub valid : IsValid board cert
-  pub few : sum_by length cert.potentials ≤ MAX_POTENTIAL_VALUES
+  pub few : sum_by length cert.potentials ≤ most_potential_values
   pub lower : IsLowerBound board (bound_of board cert)
 
 -- a certificate by hops for the deepest group, whose bound is twice that group's depth
