@@ -40,11 +40,13 @@ root_of_net board cert n = root_of (weight_of_net board cert n)
 
 -- the spreads of all nets, by the roots of their weights
 abbrev pub root_spreads : Board → Cert → ℕ
-root_spreads board cert = sum_below (length board.nets) (λ n. root_of_net board cert n * net_spread board cert n)
+root_spreads board cert =
+    sum_below (length board.nets) (λ n. root_of_net board cert n * net_spread board cert n)
 
 -- the spreads of all nets, by their weights
 abbrev pub weight_spreads : Board → Cert → ℕ
-weight_spreads board cert = sum_below (length board.nets) (λ n. weight_of_net board cert n * net_spread board cert n)
+weight_spreads board cert =
+    sum_below (length board.nets) (λ n. weight_of_net board cert n * net_spread board cert n)
 
 -- what the bound times the divisor must reach, 0 where that is negative, by a certificate of this kind
 abbrev pub demand_of_kind : CertKind → Board → Cert → ℕ

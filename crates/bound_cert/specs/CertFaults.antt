@@ -10,6 +10,7 @@ IsFaultOf NoMemory read = Unit {0}
 IsFaultOf (Refused refusal) read = read ≡ Err refusal
 
 -- reading comes to what it comes to after this answer, or the answer is the fault
-abbrev pub Leads : {X A : Type 0} → Result X CertFault → Result A CertRefusal → (X → Result A CertRefusal) → Type 0
+abbrev pub Leads : {X A : Type 0} → Result X CertFault → Result A CertRefusal
+    → (X → Result A CertRefusal) → Type 0
 Leads (Ok x) read after = read ≡ after x
 Leads (Err fault) read after = IsFaultOf fault read

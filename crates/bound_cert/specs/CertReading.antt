@@ -39,7 +39,8 @@ unless_bad (Some token.NumberTooLarge) line more = refused NumberTooLarge line.n
 abbrev pub kind_said : ℕ → (kind unit : ℕ) → Result CertKind CertRefusal
 kind_said line kind unit =
     if kind == 1 then (if unit == 0 then Ok Share else refused BadUnit line)
-    else (if kind == 2 then (if unit == 0 || nat_lt most_unit unit then refused BadUnit line else Ok (Hop unit))
+    else (if kind == 2
+    then (if unit == 0 || nat_lt most_unit unit then refused BadUnit line else Ok (Hop unit))
     else refused BadKind line)
 
 -- how many potentials there are: none where they would have no value
@@ -80,14 +81,16 @@ module _ (after : ℕ) where
   next_line missing (line ∷ more) = unless_bad line.fault line more
 
   -- what the next line says, and the lines behind it
-  abbrev pub line_from : {A : Type 0} → CertTextKind → (ℕ → List ℕ → Result A CertRefusal) → List Line → Result (A × List Line) CertRefusal
+  abbrev pub line_from : {A : Type 0} → CertTextKind → (ℕ → List ℕ → Result A CertRefusal)
+      → List Line → Result (A × List Line) CertRefusal
   line_from missing said lines = do
     next ← next_line missing lines
     x ← said next.0.number next.0.numbers
     Ok (x, next.1)
 
   -- what each of so many lines says, and the lines behind them
-  abbrev pub section_from : {A : Type 0} → (ℕ → List ℕ → Result A CertRefusal) → ℕ → List Line → Result (List A × List Line) CertRefusal
+  abbrev pub section_from : {A : Type 0} → (ℕ → List ℕ → Result A CertRefusal) → ℕ → List Line
+      → Result (List A × List Line) CertRefusal
   section_from said zero lines = Ok ([], lines)
   section_from said (suc count) lines = do
     first ← line_from MissingLine said lines

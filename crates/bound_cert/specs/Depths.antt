@@ -6,7 +6,8 @@ use Rattle.tdm_problem.specs.Legal.{terminals_of, source_of}
 
 -- each FPGA of net n is within so many hops of its source, and one of them is exactly so many hops away
 pub record IsDepth (board : Board) (n depth : ℕ) : Type 0 where
-  pub within : (f : ℕ) → Contains (terminals_of board n) f → (hops : ℕ) × IsHopCount board (source_of board n) f hops × (hops ≤ depth)
+  pub within : (f : ℕ) → Contains (terminals_of board n) f
+      → (hops : ℕ) × IsHopCount board (source_of board n) f hops × (hops ≤ depth)
   pub reached : (f : ℕ) × Contains (terminals_of board n) f × IsHopCount board (source_of board n) f depth
 
 -- the depth of net n

@@ -39,7 +39,8 @@ uniform_length board depths = part_of (rooted_depths board depths) (length board
 abbrev pub share_floor : Board → (depths : List ℕ) → ℕ
 share_floor board depths =
     let long = uniform_length board depths in
-    least_even (2 * long * rooted_depths board depths - length board.wires * (long * long)) (uniform_weight * length board.groups)
+    least_even (2 * long * rooted_depths board depths - length board.wires * (long * long))
+    (uniform_weight * length board.groups)
 
 -- the number is the floor by hops
 pub record IsHopFloor (board : Board) (floor : ℕ) : Type 0 where

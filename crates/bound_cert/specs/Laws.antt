@@ -11,7 +11,8 @@ use Rattle.bound_cert.specs.Bound.{spread, least_even, bound_of}
 
 -- along each wire, either way, the potential rises by at most the wire's length
 abbrev pub IsGentle : Board → (potential : List ℕ) → (wire_length : ℕ → ℕ) → Type 0
-IsGentle board potential wire_length = (e a b : ℕ) → Links board e a b → value_at potential b ≤ value_at potential a + wire_length e
+IsGentle board potential wire_length = (e a b : ℕ) → Links board e a b
+    → value_at potential b ≤ value_at potential a + wire_length e
 
 -- wires that join FPGAs are together at least as long as a gentle potential is spread over these
 abbrev pub SpreadLaw : Type 0

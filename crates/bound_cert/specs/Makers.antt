@@ -13,7 +13,8 @@ use Rattle.bound_cert.specs.Floors.{uniform_length}
 
 -- the value at FPGA f is its distance from the root, or 0 where no wires lead there
 abbrev pub IsRootValue : Board → (ℕ → ℕ) → (root f value : ℕ) → Type 0
-IsRootValue board wire_length root f value = IsDistance board wire_length root f value ⊎ (HasNoWalk board root f × (value ≡ 0))
+IsRootValue board wire_length root f value = IsDistance board wire_length root f value
+    ⊎ (HasNoWalk board root f × (value ≡ 0))
 
 -- each FPGA's value is its distance from the root, or 0 where no wires lead there
 pub record IsRootPotential (board : Board) (wire_length : ℕ → ℕ) (root : ℕ) (potential : List ℕ) : Type 0 where
@@ -23,11 +24,13 @@ pub record IsRootPotential (board : Board) (wire_length : ℕ → ℕ) (root : �
 -- there is a potential for each of these FPGAs, in order
 pub record ArePotentialsFrom (board : Board) (wire_length : ℕ → ℕ) (roots : List ℕ) (potentials : List (List ℕ)) : Type 0 where
   pub count : length potentials ≡ length roots
-  pub each : (p : ℕ) → p < length roots → IsRootPotential board wire_length (slice_index roots p) (slice_index_or potentials p [])
+  pub each : (p : ℕ) → p < length roots
+      → IsRootPotential board wire_length (slice_index roots p) (slice_index_or potentials p [])
 
 -- there is a potential for each root, in order
 abbrev pub AreRootPotentials : Board → (ℕ → ℕ) → List (List ℕ) → Type 0
-AreRootPotentials board wire_length potentials = ArePotentialsFrom board wire_length (roots_of board) potentials
+AreRootPotentials board wire_length potentials =
+    ArePotentialsFrom board wire_length (roots_of board) potentials
 
 -- the number, less 1, is that of the source among the roots
 pub record IsChoiceAmong (roots : List ℕ) (source choice : ℕ) : Type 0 where
@@ -39,7 +42,8 @@ pub record IsChoiceAmong (roots : List ℕ) (source choice : ℕ) : Type 0 where
 -- each net chooses the potential of its source
 pub record ChooseSources (board : Board) (choices : List ℕ) : Type 0 where
   pub count : length choices ≡ length board.nets
-  pub each : (n : ℕ) → n < length board.nets → IsChoiceAmong (roots_of board) (source_of board n) (slice_index choices n)
+  pub each : (n : ℕ) → n < length board.nets
+      → IsChoiceAmong (roots_of board) (source_of board n) (slice_index choices n)
 
 -- the potentials are those of the roots, at the certificate's lengths, and each net chooses that of its source
 pub record HasRootPotentials (board : Board) (cert : Cert) : Type 0 where
@@ -49,12 +53,17 @@ pub record HasRootPotentials (board : Board) (cert : Cert) : Type 0 where
 -- the depths of group g's nets are together the most, and those of each group before it are less
 pub record IsFirstDeepest (board : Board) (depths : List ℕ) (g : ℕ) : Type 0 where
   pub there : g < length board.groups
-  pub most : (k : ℕ) → k < length board.groups → group_depth depths (slice_index_or board.groups k []) ≤ group_depth depths (slice_index_or board.groups g [])
-  pub first : (k : ℕ) → k < g → group_depth depths (slice_index_or board.groups k []) < group_depth depths (slice_index_or board.groups g [])
+  pub most : (k : ℕ) → k < length board.groups
+      → group_depth depths (slice_index_or board.groups k [])
+      ≤ group_depth depths (slice_index_or board.groups g [])
+  pub first : (k : ℕ) → k < g
+      → group_depth depths (slice_index_or board.groups k [])
+      < group_depth depths (slice_index_or board.groups g [])
 
 -- the group has weight 1 where it is the first of the deepest, and else 0
 abbrev pub IsHopWeight : Board → (depths : List ℕ) → (g weight : ℕ) → Type 0
-IsHopWeight board depths g weight = (IsFirstDeepest board depths g × (weight ≡ 1)) ⊎ ((IsFirstDeepest board depths g → ⊥) × (weight ≡ 0))
+IsHopWeight board depths g weight = (IsFirstDeepest board depths g × (weight ≡ 1))
+    ⊎ ((IsFirstDeepest board depths g → ⊥) × (weight ≡ 0))
 
 -- the certificate by hops of unit 1, for the first of the deepest groups
 pub record IsHopGroupCert (board : Board) (cert : Cert) : Type 0 where

@@ -47,7 +47,8 @@ fn a_potential_rises_by_the_length_at_most()
 fn certificates_have_texts()
     ensures share { cert_text (wire_cert 1 3 0 3 (1 ∷ 1 ∷ 1 ∷ [])) ≡ codes "1 1 0 1\n1\n3\n0 3\n1\n1\n1\n" }
     ensures hop { cert_text star_cert ≡ codes "1 2 1 1\n1\n1 0 2 2\n1\n" }
-    ensures reads_share { cert_of shared (codes "1 1 0 1\n1\n3\n0 3\n1\n1\n1\n") ≡ Ok (wire_cert 1 3 0 3 (1 ∷ 1 ∷ 1 ∷ [])) }
+    ensures reads_share { cert_of shared (codes "1 1 0 1\n1\n3\n0 3\n1\n1\n1\n")
+        ≡ Ok (wire_cert 1 3 0 3 (1 ∷ 1 ∷ 1 ∷ [])) }
     ensures reads_hop { cert_of star (codes "1 2 01 1\r\n1\n\n1 0 2\t2\n1") ≡ Ok star_cert }
 {}
 
@@ -55,31 +56,42 @@ fn certificates_have_texts()
 fn the_first_fault_decides()
     ensures no_header { cert_of pair (codes "\n") ≡ Err (record { kind = NoHeader; line = 2 }) }
     ensures bad_number { cert_of pair (codes "1 1 0 x\n") ≡ Err (record { kind = BadNumber; line = 1 }) }
-    ensures too_large { cert_of pair (codes "1 1 0 1\n1\n1\n0 1152921504606846976\n1\n") ≡ Err (record { kind = NumberTooLarge; line = 4 }) }
+    ensures too_large { cert_of pair (codes "1 1 0 1\n1\n1\n0 1152921504606846976\n1\n")
+        ≡ Err (record { kind = NumberTooLarge; line = 4 }) }
     ensures wrong_count { cert_of pair (codes "1 1 0\n") ≡ Err (record { kind = WrongCount; line = 1 }) }
-    ensures few_values { cert_of pair (codes "1 1 0 1\n1\n1\n0\n1\n") ≡ Err (record { kind = WrongCount; line = 4 }) }
+    ensures few_values { cert_of pair (codes "1 1 0 1\n1\n1\n0\n1\n")
+        ≡ Err (record { kind = WrongCount; line = 4 }) }
     ensures bad_version { cert_of pair (codes "2 1 0 0\n") ≡ Err (record { kind = BadVersion; line = 1 }) }
     ensures bad_kind { cert_of pair (codes "1 3 0 0\n") ≡ Err (record { kind = BadKind; line = 1 }) }
     ensures bad_unit { cert_of pair (codes "1 1 1 0\n") ≡ Err (record { kind = BadUnit; line = 1 }) }
     ensures no_unit { cert_of pair (codes "1 2 0 0\n") ≡ Err (record { kind = BadUnit; line = 1 }) }
     ensures count_limit { cert_of pair (codes "1 1 0 4097\n") ≡ Err (record { kind = CountLimit; line = 1 }) }
-    ensures weight_limit { cert_of pair (codes "1 1 0 0\n1099511627777\n") ≡ Err (record { kind = WeightLimit; line = 2 }) }
-    ensures length_limit { cert_of pair (codes "1 1 0 0\n1\n281474976710657\n") ≡ Err (record { kind = LengthLimit; line = 3 }) }
-    ensures unknown_potential { cert_of pair (codes "1 1 0 1\n1\n1\n0 1\n2\n") ≡ Err (record { kind = UnknownPotential; line = 5 }) }
-    ensures missing_line { cert_of pair (codes "1 1 0 0\n1\n1\n") ≡ Err (record { kind = MissingLine; line = 4 }) }
-    ensures extra_line { cert_of pair (codes "1 1 0 0\n1\n1\n0\nx") ≡ Err (record { kind = ExtraLine; line = 5 }) }
+    ensures weight_limit { cert_of pair (codes "1 1 0 0\n1099511627777\n")
+        ≡ Err (record { kind = WeightLimit; line = 2 }) }
+    ensures length_limit { cert_of pair (codes "1 1 0 0\n1\n281474976710657\n")
+        ≡ Err (record { kind = LengthLimit; line = 3 }) }
+    ensures unknown_potential { cert_of pair (codes "1 1 0 1\n1\n1\n0 1\n2\n")
+        ≡ Err (record { kind = UnknownPotential; line = 5 }) }
+    ensures missing_line { cert_of pair (codes "1 1 0 0\n1\n1\n")
+        ≡ Err (record { kind = MissingLine; line = 4 }) }
+    ensures extra_line { cert_of pair (codes "1 1 0 0\n1\n1\n0\nx")
+        ≡ Err (record { kind = ExtraLine; line = 5 }) }
 {}
 
 /// Numbers at their limits are no fault, and one more is: the faults above have a weight, a length, a value and a choice
 /// of one more.
 fn limits_are_exact()
-    ensures unit { cert_of pair (codes "1 2 1048576 0\n1\n0\n") ≡ Ok (record { kind = Hop 1048576; weights = 1 ∷ []; lengths = 1048576 ∷ []; potentials = []; choices = 0 ∷ [] }) }
-    ensures above_unit { cert_of pair (codes "1 2 1048577 0\n1\n0\n") ≡ Err (record { kind = BadUnit; line = 1 }) }
+    ensures unit { cert_of pair (codes "1 2 1048576 0\n1\n0\n")
+        ≡ Ok (record { kind = Hop 1048576; weights = 1 ∷ []; lengths = 1048576 ∷ []; potentials = []; choices = 0 ∷ [] }) }
+    ensures above_unit { cert_of pair (codes "1 2 1048577 0\n1\n0\n")
+        ≡ Err (record { kind = BadUnit; line = 1 }) }
     ensures potentials { count_said 2 1 4096 ≡ Ok 4096 }
     ensures above_potentials { count_said 2 1 4097 ≡ Err (record { kind = CountLimit; line = 1 }) }
     ensures potentials_of_nothing { count_said 0 1 1 ≡ Err (record { kind = CountLimit; line = 1 }) }
-    ensures weight_and_length { cert_of pair (codes "1 1 0 0\n1099511627776\n281474976710656\n0\n") ≡ Ok (record (wire_cert 1099511627776 281474976710656 0 0 (0 ∷ [])) { potentials = [] }) }
-    ensures value { cert_of pair (codes "1 1 0 1\n1\n1\n0 1152921504606846975\n1\n") ≡ Ok (wire_cert 1 1 0 1152921504606846975 (1 ∷ [])) }
+    ensures weight_and_length { cert_of pair (codes "1 1 0 0\n1099511627776\n281474976710656\n0\n")
+        ≡ Ok (record (wire_cert 1099511627776 281474976710656 0 0 (0 ∷ [])) { potentials = [] }) }
+    ensures value { cert_of pair (codes "1 1 0 1\n1\n1\n0 1152921504606846975\n1\n")
+        ≡ Ok (wire_cert 1 1 0 1152921504606846975 (1 ∷ [])) }
     ensures choice { cert_of pair (codes "1 1 0 1\n1\n1\n0 1\n1\n") ≡ Ok (wire_cert 1 1 0 1 (1 ∷ [])) }
 {}
 
@@ -95,7 +107,8 @@ fn the_limits_of_the_code()
 
 /// The sources of nets, each once, and the floor by hops of the star, whose net is two hops deep.
 fn sources_and_floors()
-    ensures sources { roots_of (record shared { nets = (1 ∷ 0 ∷ []) ∷ (0 ∷ []) ∷ (1 ∷ []) ∷ [] }) ≡ 1 ∷ 0 ∷ [] }
+    ensures sources { roots_of (record shared { nets = (1 ∷ 0 ∷ []) ∷ (0 ∷ []) ∷ (1 ∷ []) ∷ [] })
+        ≡ 1 ∷ 0 ∷ [] }
     ensures floor { hop_floor star (2 ∷ []) ≡ 4 }
     ensures no_group { hop_floor (record star { groups = [] }) (2 ∷ []) ≡ 0 }
     ensures part { part_of 9 2 ≡ 4 }

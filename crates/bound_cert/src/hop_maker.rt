@@ -36,7 +36,8 @@ pub fn hop_group_cert(
     ensures within { IfOk result IsCert }
     ensures valid { IfOk result (IsValid problem.now) }
     ensures floor { IfOk result (λ cert. IsHopFloor problem.now (bound_of problem.now cert)) }
-    ensures only_floor { IfOk result (λ cert. (floor : ℕ) → IsHopFloor problem.now floor → floor ≡ bound_of problem.now cert) }
+    ensures only_floor { IfOk result (λ cert. (floor : ℕ) → IsHopFloor problem.now floor → floor
+        ≡ bound_of problem.now cert) }
     ensures few { IfOk result (λ cert. sum_by length cert.potentials ≤ most_potential_values) }
 {
     let reach = HopReach::of(alloc, problem, graph)?;
@@ -60,7 +61,8 @@ fn weights_of_deepest(
     requires count { length depths.now ≡ length problem.now.nets }
     requires small { All (λ h. h ≤ MAX_FPGAS) depths.now }
     ensures none { IfOk result (λ weights. length problem.now.groups ≡ 0 → weights.items ≡ []) }
-    ensures some { IfOk result (λ weights. 0 < length problem.now.groups → (g : ℕ) × IsFirstDeepest problem.now depths.now g
+    ensures some { IfOk result (λ weights. 0 < length problem.now.groups → (g : ℕ)
+        × IsFirstDeepest problem.now depths.now g
         × (weights.items ≡ slice_set (replicate (length problem.now.groups) 0) g 1)) }
 {
     let mut weights = repeated(alloc, 0, problem.groups())?;

@@ -35,13 +35,15 @@ impl HopReach {
     ) -> Result<HopReach, AllocError>
         requires graph { graph.now ≡ graph_of problem.now }
         requires connectable { AllConnectable problem.now }
-        ensures potentials { IfOk result (λ reach. AreRootPotentials problem.now (λ _. 1) reach.potentials.items) }
+        ensures potentials { IfOk result (λ reach.
+            AreRootPotentials problem.now (λ _. 1) reach.potentials.items) }
         ensures choices { IfOk result (λ reach. ChooseSources problem.now reach.choices.items) }
         ensures depths { IfOk result (λ reach. AreDepths problem.now reach.depths.items) }
         ensures few { IfOk result (λ reach. length reach.potentials.items ≤ MAX_FPGAS) }
         ensures small { IfOk result (λ reach. All (All (λ v. v ≤ MAX_FPGAS)) reach.potentials.items) }
         ensures small_depths { IfOk result (λ reach. All (λ h. h ≤ MAX_FPGAS) reach.depths.items) }
-        ensures short_depths { IfOk result (λ reach. All (λ h. h ≤ length problem.now.wires) reach.depths.items) }
+        ensures short_depths { IfOk result (λ reach.
+            All (λ h. h ≤ length problem.now.wires) reach.depths.items) }
     {
         let roots = Roots::of(alloc, problem)?;
         let potentials = hop_potentials(alloc, graph, roots.fpgas.as_slice())?;
@@ -61,7 +63,8 @@ fn hop_potentials(
     roots: &[u32],
 ) -> Result<Vec<Potential>, AllocError>
     requires there { All (λ root. root < graph.now.fpgas) roots.now }
-    ensures hops { IfOk result (λ potentials. (board : Board) → graph.now ≡ graph_of board → ArePotentialsFrom board (λ _. 1) roots.now potentials.items) }
+    ensures hops { IfOk result (λ potentials. (board : Board) → graph.now ≡ graph_of board
+        → ArePotentialsFrom board (λ _. 1) roots.now potentials.items) }
     ensures small { IfOk result (λ potentials. All (All (λ v. v ≤ MAX_FPGAS)) potentials.items) }
     ensures short { IfOk result (λ potentials. All (All (λ v. v ≤ length graph.now.wires)) potentials.items) }
 {
@@ -75,7 +78,8 @@ fn hop_potentials(
 /// The potential of the hops from FPGA `root`.
 fn hop_potential(alloc: Global, graph: &BoardGraph, root: u32) -> Result<Potential, AllocError>
     requires { root < graph.now.fpgas }
-    ensures hops { IfOk result (λ potential. (board : Board) → graph.now ≡ graph_of board → IsRootPotential board (λ _. 1) root potential) }
+    ensures hops { IfOk result (λ potential. (board : Board) → graph.now ≡ graph_of board
+        → IsRootPotential board (λ _. 1) root potential) }
     ensures small { IfOk result (All (λ v. v ≤ MAX_FPGAS)) }
     ensures short { IfOk result (All (λ v. v ≤ length graph.now.wires)) }
 {
@@ -87,7 +91,8 @@ fn hop_potential(alloc: Global, graph: &BoardGraph, root: u32) -> Result<Potenti
 /// The distance of each FPGA from the root of a forest, 0 where no wires lead there.
 fn distances_of(alloc: Global, graph: &BoardGraph, forest: &Forest) -> Result<Vec<u64>, AllocError>
     requires { length forest.now.distances ≡ graph.now.fpgas }
-    ensures values { IfOk result (λ values. values.items ≡ map (λ distance. unwrap_or distance 0) forest.now.distances) }
+    ensures values { IfOk result (λ values. values.items
+        ≡ map (λ distance. unwrap_or distance 0) forest.now.distances) }
     ensures graph { IsGraph graph.now }
 {
     let fpgas = graph.fpgas();
@@ -109,7 +114,8 @@ fn depths_of(
     requires potentials { AreRootPotentials problem.now (λ _. 1) potentials.now }
     requires choices { ChooseSources problem.now choices.now }
     ensures depths { IfOk result (λ depths. AreDepths problem.now depths.items) }
-    ensures within { IfOk result (λ depths. (most : ℕ) → All (All (λ v. v ≤ most)) potentials.now → All (λ h. h ≤ most) depths.items) }
+    ensures within { IfOk result (λ depths. (most : ℕ) → All (All (λ v. v ≤ most)) potentials.now
+        → All (λ h. h ≤ most) depths.items) }
 {
     let mut depths = Vec::with_capacity(alloc, problem.nets() as usize)?;
     for n in 0..problem.nets() {

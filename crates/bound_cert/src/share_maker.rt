@@ -43,7 +43,8 @@ pub fn uniform_share_cert(
     ensures within { IfOk result IsCert }
     ensures valid { IfOk result (IsValid problem.now) }
     ensures floor { IfOk result (λ cert. IsShareFloor problem.now (bound_of problem.now cert)) }
-    ensures only_floor { IfOk result (λ cert. (floor : ℕ) → IsShareFloor problem.now floor → floor ≡ bound_of problem.now cert) }
+    ensures only_floor { IfOk result (λ cert. (floor : ℕ) → IsShareFloor problem.now floor → floor
+        ≡ bound_of problem.now cert) }
     ensures few { IfOk result (λ cert. sum_by length cert.potentials ≤ most_potential_values) }
 {
     let mut reach = HopReach::of(alloc, problem, graph)?;
@@ -79,7 +80,8 @@ fn rooted_depths(holders: &[u32], depths: &[u64]) -> u64
     requires few { length depths.now ≤ MAX_NETS }
     requires few_holders { All (λ count. count ≤ MAX_GROUPS) holders.now }
     requires small { All (λ h. h ≤ MAX_FPGAS) depths.now }
-    ensures total { result ≡ sum_below (length depths.now) (λ n. root_of (uniform_weight * slice_index holders.now n) * slice_index depths.now n) }
+    ensures total { result ≡ sum_below (length depths.now)
+        (λ n. root_of (uniform_weight * slice_index holders.now n) * slice_index depths.now n) }
     ensures within { (most : ℕ) → All (λ h. h ≤ most) depths.now → result ≤ 2 ^ 40 * most }
 {
     let mut total = 0;

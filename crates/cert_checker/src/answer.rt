@@ -34,7 +34,8 @@ pub fn check(
     ensures accepted { IfOk result (λ answer. IsAcceptance answer ↔ IsValid problem.now cert.now) }
     ensures err { OnErr result (IsValid problem.now cert.now) }
     ensures dual_bound { IfOk result (λ answer. HasLowerBound problem.now answer) }
-    ensures only { IfOk result (λ answer. (other : CheckAnswer) → IsAnswer problem.now cert.now other → other ≡ answer) }
+    ensures only { IfOk result (λ answer. (other : CheckAnswer)
+        → IsAnswer problem.now cert.now other → other ≡ answer) }
 {
     if let Some(steep) = first_steep(problem, cert) {
         return Ok(CheckAnswer::Rejected(steep));

@@ -32,7 +32,8 @@ fn add_weight(weights: &mut [u64], nets: &[u32], weight: u64)
     requires there { All (λ n. n < length weights.old) nets.now }
     requires distinct { AllPairs (λ m n. m ≢ n) nets.now }
     requires room { All (λ before. before + weight < 2 ^ 64) weights.old }
-    ensures each { (n : ℕ) → n < length weights.old → slice_index weights.new n ≡ slice_index weights.old n + (if list_any (λ m. m == n) nets.now then weight else 0) }
+    ensures each { (n : ℕ) → n < length weights.old → slice_index weights.new n
+        ≡ slice_index weights.old n + (if list_any (λ m. m == n) nets.now then weight else 0) }
     ensures total { sum weights.new ≡ sum weights.old + weight * length nets.now }
 {
     for n in nets {

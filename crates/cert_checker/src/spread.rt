@@ -13,7 +13,8 @@ pub(crate) fn sum_of_spreads(problem: &Problem, cert: &Certificate, factors: &[u
     requires is_for { IsCertFor problem.now cert.now }
     requires whole { length factors.now ≡ length problem.now.nets }
     requires small { sum factors.now ≤ 2 ^ 64 }
-    ensures value { result ≡ sum_below (length problem.now.nets) (λ n. slice_index factors.now n * net_spread problem.now cert.now n) }
+    ensures value { result ≡ sum_below (length problem.now.nets)
+        (λ n. slice_index factors.now n * net_spread problem.now cert.now n) }
     ensures within { result ≤ 2 ^ 124 }
 {
     let mut total = 0;

@@ -49,7 +49,9 @@ fn first_steep_wire(problem: &Problem, cert: &Certificate, p: u32) -> Option<u32
 fn is_steep(potential: &[u64], wire: Wire, limit: u64) -> bool
     requires a_there { wire.a < length potential.now }
     requires b_there { wire.b < length potential.now }
-    ensures { IsTrue result ↔ ((slice_index potential.now wire.a + limit < slice_index potential.now wire.b) ⊎ (slice_index potential.now wire.b + limit < slice_index potential.now wire.a)) }
+    ensures { IsTrue result
+        ↔ ((slice_index potential.now wire.a + limit < slice_index potential.now wire.b)
+        ⊎ (slice_index potential.now wire.b + limit < slice_index potential.now wire.a)) }
 {
     let at_a = potential[wire.a as usize];
     let at_b = potential[wire.b as usize];

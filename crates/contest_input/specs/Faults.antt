@@ -33,7 +33,8 @@ abbrev pub header_fault : List ℕ → Option BoardKind
 header_fault numbers =
     let sizes = sizes_of numbers in
     if not (length numbers == 4) then Some WrongCount
-    else (if nat_lt MAX_FPGAS sizes.fpgas || (nat_lt MAX_WIRES sizes.wires || (nat_lt MAX_NETS sizes.nets || nat_lt MAX_GROUPS sizes.groups)) then Some CountLimit
+    else (if nat_lt MAX_FPGAS sizes.fpgas || (nat_lt MAX_WIRES sizes.wires
+    || (nat_lt MAX_NETS sizes.nets || nat_lt MAX_GROUPS sizes.groups)) then Some CountLimit
     else None)
 
 -- a wire line: two different FPGAs of the board

@@ -23,7 +23,8 @@ HaveNumbers (line ∷ later) = (line.fault ≡ None → 0 < length line.numbers)
 -- why a line in this role can't be read next, if it can't
 abbrev pub next_refusal : BoardKind → (List ℕ → Option BoardKind) → ℕ → List Line → Option BoardRefusal
 next_refusal missing fault end [] = Some (record { kind = missing; line = end })
-next_refusal missing fault end (line ∷ later) = refused_at line.number (tokens_first line.fault (fault line.numbers))
+next_refusal missing fault end (line ∷ later) =
+    refused_at line.number (tokens_first line.fault (fault line.numbers))
 
 -- the numbers of the next line
 abbrev pub next_numbers : List Line → List ℕ

@@ -11,7 +11,8 @@ fn texts_describe_boards()
     ensures shared { board_of (codes "2 1 3 1\n0 1\n0 1\n0 1\n0 1\n0 1 2\n") ≡ Ok shared }
     ensures star { board_of (codes "4 3 1 1\n0 1\n0 2\n0 3\n1 2 3\n0\n") ≡ Ok star }
     ensures split { board_of (codes "4 2 3 0\n0 1\n2 3\n0 2\n0 1\n3 1\n") ≡ Ok split }
-    ensures empty { board_of (codes "0 0 0 0\n") ≡ Ok (record { fpgas = 0; wires = []; nets = []; groups = [] }) }
+    ensures empty { board_of (codes "0 0 0 0\n")
+        ≡ Ok (record { fpgas = 0; wires = []; nets = []; groups = [] }) }
 {}
 
 /// Repeated numbers count once, in their first place.
@@ -31,19 +32,28 @@ fn the_first_fault_decides()
     ensures no_header { board_of (codes "") ≡ Err (record { kind = NoHeader; line = 1 }) }
     ensures blank { board_of (codes " \n\t\n") ≡ Err (record { kind = NoHeader; line = 3 }) }
     ensures bad_number { board_of (codes "2 1 1 1\n0 x\n") ≡ Err (record { kind = BadNumber; line = 2 }) }
-    ensures number_too_large { board_of (codes "4294967296 0 0 0\n") ≡ Err (record { kind = NumberTooLarge; line = 1 }) }
-    ensures largest_number { board_of (codes "4294967295 0 0 0\n") ≡ Err (record { kind = CountLimit; line = 1 }) }
-    ensures leading_zeros { board_of (codes "00004294967295 0 0 0\n") ≡ Err (record { kind = CountLimit; line = 1 }) }
+    ensures number_too_large { board_of (codes "4294967296 0 0 0\n")
+        ≡ Err (record { kind = NumberTooLarge; line = 1 }) }
+    ensures largest_number { board_of (codes "4294967295 0 0 0\n")
+        ≡ Err (record { kind = CountLimit; line = 1 }) }
+    ensures leading_zeros { board_of (codes "00004294967295 0 0 0\n")
+        ≡ Err (record { kind = CountLimit; line = 1 }) }
     ensures wrong_count { board_of (codes "2 1 1\n") ≡ Err (record { kind = WrongCount; line = 1 }) }
     ensures count_limit { board_of (codes "4097 0 0 0\n") ≡ Err (record { kind = CountLimit; line = 1 }) }
     ensures unknown_fpga { board_of (codes "2 1 0 0\n2 2\n") ≡ Err (record { kind = UnknownFpga; line = 2 }) }
     ensures self_loop { board_of (codes "3 1 0 0\n2 2\n") ≡ Err (record { kind = SelfLoop; line = 2 }) }
-    ensures largest_fpga { board_of (codes "2 1 0 0\n0 4294967295\n") ≡ Err (record { kind = UnknownFpga; line = 2 }) }
-    ensures larger_fpga { board_of (codes "2 1 0 0\n0 4294967296\n") ≡ Err (record { kind = NumberTooLarge; line = 2 }) }
-    ensures unknown_net { board_of (codes "2 1 1 1\n0 1\n0 1\n1\n") ≡ Err (record { kind = UnknownNet; line = 4 }) }
-    ensures missing_line { board_of (codes "2 1 1 1\n0 1\n0 1\n") ≡ Err (record { kind = MissingLine; line = 4 }) }
-    ensures extra_line { board_of (codes "2 1 1 1\n0 1\n0 1\n0\n0\n") ≡ Err (record { kind = ExtraLine; line = 5 }) }
-    ensures earlier { board_of (codes "2 1 1 1\n0 1\n0 2\nx\n") ≡ Err (record { kind = UnknownFpga; line = 3 }) }
+    ensures largest_fpga { board_of (codes "2 1 0 0\n0 4294967295\n")
+        ≡ Err (record { kind = UnknownFpga; line = 2 }) }
+    ensures larger_fpga { board_of (codes "2 1 0 0\n0 4294967296\n")
+        ≡ Err (record { kind = NumberTooLarge; line = 2 }) }
+    ensures unknown_net { board_of (codes "2 1 1 1\n0 1\n0 1\n1\n")
+        ≡ Err (record { kind = UnknownNet; line = 4 }) }
+    ensures missing_line { board_of (codes "2 1 1 1\n0 1\n0 1\n")
+        ≡ Err (record { kind = MissingLine; line = 4 }) }
+    ensures extra_line { board_of (codes "2 1 1 1\n0 1\n0 1\n0\n0\n")
+        ≡ Err (record { kind = ExtraLine; line = 5 }) }
+    ensures earlier { board_of (codes "2 1 1 1\n0 1\n0 2\nx\n")
+        ≡ Err (record { kind = UnknownFpga; line = 3 }) }
     ensures later { board_of (codes "2 1 1 1\n0 1\n0 x") ≡ Err (record { kind = BadNumber; line = 3 }) }
 {}
 

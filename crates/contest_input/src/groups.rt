@@ -22,11 +22,16 @@ pub(crate) fn read_groups(
     requires room { count ≤ MAX_GROUPS }
     requires none { draft.old.groups ≡ [] }
     requires nets { length draft.old.nets ≡ nets }
-    ensures clean { OnOk result (section_refusal (group_fault nets) count source.old.end source.old.lines ≡ None) }
+    ensures clean { OnOk result (section_refusal
+        (group_fault nets) count source.old.end source.old.lines ≡ None) }
     ensures rest { OnOk result (source.new.lines ≡ drop count source.old.lines) }
     ensures end { OnOk result (source.new.end ≡ source.old.end) }
-    ensures groups { OnOk result (draft.new ≡ record draft.old { groups = map listed_row (take count source.old.lines) }) }
-    ensures err { IfErr result (IsFor (section_refusal (group_fault nets) count source.old.end source.old.lines)) }
+    ensures groups { OnOk result (draft.new ≡ record draft.old {
+      groups = map listed_row
+          (take count source.old.lines);
+    }) }
+    ensures err { IfErr result (IsFor (section_refusal
+        (group_fault nets) count source.old.end source.old.lines)) }
 {
     let listing = Listing {
         unknown: BoardKind::UnknownNet,

@@ -71,7 +71,8 @@ pub(crate) fn read_list(
     row: &mut Vec<u32>,
 ) -> Result<u64, BoardFault>
     requires { listed < 2 ^ 32 }
-    ensures clean { OnOk result (next_refusal MissingLine (list_fault listing (listed + length (next_numbers source.old.lines))) source.old.end source.old.lines ≡ None) }
+    ensures clean { OnOk result (next_refusal MissingLine
+        (list_fault listing (listed + length (next_numbers source.old.lines))) source.old.end source.old.lines ≡ None) }
     ensures listed { IfOk result (λ total. total ≡ listed + length (next_numbers source.old.lines)) }
     ensures within { IfOk result (λ total. total ≤ listing.most) }
     ensures row { OnOk result (row.new.items ≡ next_numbers source.old.lines) }
@@ -79,7 +80,8 @@ pub(crate) fn read_list(
     ensures there { OnOk result (All (λ n. n < listing.below) row.new.items) }
     ensures rest { OnOk result (source.new ≡ after_line source.old) }
     ensures end { source.new.end ≡ source.old.end }
-    ensures err { IfErr result (IsFor (next_refusal MissingLine (list_fault listing (listed + length (next_numbers source.old.lines))) source.old.end source.old.lines)) }
+    ensures err { IfErr result (IsFor (next_refusal MissingLine
+        (list_fault listing (listed + length (next_numbers source.old.lines))) source.old.end source.old.lines)) }
 {
     let line = source.next_line(BoardKind::MissingLine)?;
     let numbers = source.numbers();

@@ -21,11 +21,16 @@ pub(crate) fn read_nets(
     requires room { count ≤ MAX_NETS }
     requires none { draft.old.nets ≡ [] }
     requires fpgas { draft.old.fpgas ≡ fpgas }
-    ensures clean { OnOk result (section_refusal (net_fault fpgas) count source.old.end source.old.lines ≡ None) }
+    ensures clean { OnOk result (section_refusal
+        (net_fault fpgas) count source.old.end source.old.lines ≡ None) }
     ensures rest { OnOk result (source.new.lines ≡ drop count source.old.lines) }
     ensures end { OnOk result (source.new.end ≡ source.old.end) }
-    ensures nets { OnOk result (draft.new ≡ record draft.old { nets = map listed_row (take count source.old.lines) }) }
-    ensures err { IfErr result (IsFor (section_refusal (net_fault fpgas) count source.old.end source.old.lines)) }
+    ensures nets { OnOk result (draft.new ≡ record draft.old {
+      nets = map listed_row
+          (take count source.old.lines);
+    }) }
+    ensures err { IfErr result (IsFor (section_refusal
+        (net_fault fpgas) count source.old.end source.old.lines)) }
 {
     let listing = Listing {
         unknown: BoardKind::UnknownFpga,

@@ -35,7 +35,12 @@ impl<'a> Source<'a> {
     /// The text before its first line.
     pub(crate) fn new(alloc: Global, text: &'a [u8]) -> Source<'a>
         requires { length text.now ≤ 2 ^ 30 }
-        ensures { result ≡ record { lines = lines (2 ^ 32 - 1) text.now; end = line_after text.now; numbers = [] } }
+        ensures { result ≡ record {
+          lines = lines
+              (2 ^ 32 - 1) text.now;
+          end = line_after text.now;
+          numbers = [];
+        } }
     {
         Source {
             text,
@@ -54,7 +59,8 @@ impl<'a> Source<'a> {
     /// Reads the next line, and answers its number. Refused for `missing` where there is none, or for a
     /// fault of its tokens.
     pub(crate) fn next_line(&mut self, missing: BoardKind) -> Result<u32, BoardFault>
-        ensures ok { IfOk result (λ number. self.old.lines ≡ record { number = number; fault = None; numbers = self.new.numbers } ∷ self.new.lines) }
+        ensures ok { IfOk result (λ number. self.old.lines
+            ≡ record { number = number; fault = None; numbers = self.new.numbers } ∷ self.new.lines) }
         ensures some { OnOk result (0 < length self.new.numbers) }
         ensures end { self.new.end ≡ self.old.end }
         ensures err { IfErr result (IsFor (next_refusal missing (λ _. None) self.old.end self.old.lines)) }

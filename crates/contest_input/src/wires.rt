@@ -30,12 +30,14 @@ fn wire_fault(fpgas: u32, numbers: &[u64]) -> Option<BoardKind>
 
 /// Reads one wire line.
 fn read_wire(source: &mut Source<'_>, fpgas: u32) -> Result<Wire, BoardFault>
-    ensures clean { OnOk result (next_refusal MissingLine (wire_fault fpgas) source.old.end source.old.lines ≡ None) }
+    ensures clean { OnOk result (next_refusal MissingLine
+        (wire_fault fpgas) source.old.end source.old.lines ≡ None) }
     ensures wire { IfOk result (λ wire. wire ≡ wire_of (next_numbers source.old.lines)) }
     ensures joins { IfOk result (λ wire. IsWireOf fpgas wire) }
     ensures rest { OnOk result (source.new ≡ after_line source.old) }
     ensures end { source.new.end ≡ source.old.end }
-    ensures err { IfErr result (IsFor (next_refusal MissingLine (wire_fault fpgas) source.old.end source.old.lines)) }
+    ensures err { IfErr result (IsFor (next_refusal MissingLine
+        (wire_fault fpgas) source.old.end source.old.lines)) }
 {
     let line = source.next_line(BoardKind::MissingLine)?;
     let numbers = source.numbers();
@@ -55,11 +57,16 @@ pub(crate) fn read_wires(
 ) -> Result<(), BoardFault>
     requires room { length draft.old.wires + count ≤ MAX_WIRES }
     requires fpgas { draft.old.fpgas ≡ fpgas }
-    ensures clean { OnOk result (section_refusal (λ _. wire_fault fpgas) count source.old.end source.old.lines ≡ None) }
+    ensures clean { OnOk result (section_refusal
+        (λ _. wire_fault fpgas) count source.old.end source.old.lines ≡ None) }
     ensures rest { OnOk result (source.new.lines ≡ drop count source.old.lines) }
     ensures end { source.new.end ≡ source.old.end }
-    ensures wires { OnOk result (draft.new ≡ record draft.old { wires = draft.old.wires ++ map wire_row (take count source.old.lines) }) }
-    ensures err { IfErr result (IsFor (section_refusal (λ _. wire_fault fpgas) count source.old.end source.old.lines)) }
+    ensures wires { OnOk result (draft.new ≡ record draft.old {
+      wires = draft.old.wires
+          ++ map wire_row (take count source.old.lines);
+    }) }
+    ensures err { IfErr result (IsFor (section_refusal
+        (λ _. wire_fault fpgas) count source.old.end source.old.lines)) }
 {
     for _ in 0..count {
         let wire = read_wire(source, fpgas)?;

@@ -26,7 +26,8 @@ uniform_routing board trees = map (λ wires. map (uniform_use board trees) wires
 
 -- each tree joins the FPGAs of its net
 abbrev pub JoinsEachNet : Board → (trees : List (List ℕ)) → Type 0
-JoinsEachNet board trees = (n : ℕ) → n < length board.nets → Joins board (Contains (tree_of trees n)) (terminals_of board n)
+JoinsEachNet board trees = (n : ℕ) → n < length board.nets
+    → Joins board (Contains (tree_of trees n)) (terminals_of board n)
 
 -- the counts say of each wire how many nets use it
 pub record CountsNets (trees : List (List ℕ)) (wires : ℕ) (counts : List ℕ) : Type 0 where

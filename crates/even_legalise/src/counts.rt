@@ -28,7 +28,8 @@ fn add_net(counts: &mut [u32], wires: &[u32])
     requires there { All (λ e. e < length counts.old) wires.now }
     requires distinct { AllPairs (λ d e. d ≢ e) wires.now }
     requires room { All (λ count. count < 2 ^ 32 - 1) counts.old }
-    ensures { (e : ℕ) → e < length counts.old → slice_index counts.new e ≡ slice_index counts.old e + count_by (λ d. d == e) wires.now }
+    ensures { (e : ℕ) → e < length counts.old → slice_index counts.new e
+        ≡ slice_index counts.old e + count_by (λ d. d == e) wires.now }
 {
     for e in wires {
         counts[*e as usize] += 1;

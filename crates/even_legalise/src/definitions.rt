@@ -23,7 +23,10 @@ fn no_smaller_even_ratio_fits()
 /// Each net uses its tree with the ratios of how many nets are on its wires.
 fn trees_are_used_with_uniform_ratios()
     ensures count { nets_on ((0 ∷ []) ∷ (0 ∷ 2 ∷ []) ∷ (2 ∷ []) ∷ []) 0 ≡ 2 }
-    ensures shared { uniform_routing shared ((0 ∷ []) ∷ (0 ∷ []) ∷ (0 ∷ []) ∷ []) ≡ on_wire_0 (4 ∷ 4 ∷ 4 ∷ []) }
-    ensures star { uniform_routing star ((0 ∷ 1 ∷ 2 ∷ []) ∷ []) ≡ (use_at 0 2 ∷ use_at 1 2 ∷ use_at 2 2 ∷ []) ∷ [] }
-    ensures apart { uniform_routing doubled ((0 ∷ []) ∷ (1 ∷ []) ∷ (0 ∷ []) ∷ (0 ∷ []) ∷ []) ≡ (use_at 0 4 ∷ []) ∷ (use_at 1 2 ∷ []) ∷ (use_at 0 4 ∷ []) ∷ (use_at 0 4 ∷ []) ∷ [] }
+    ensures shared { uniform_routing shared ((0 ∷ []) ∷ (0 ∷ []) ∷ (0 ∷ []) ∷ [])
+        ≡ on_wire_0 (4 ∷ 4 ∷ 4 ∷ []) }
+    ensures star { uniform_routing star ((0 ∷ 1 ∷ 2 ∷ []) ∷ [])
+        ≡ (use_at 0 2 ∷ use_at 1 2 ∷ use_at 2 2 ∷ []) ∷ [] }
+    ensures apart { uniform_routing doubled ((0 ∷ []) ∷ (1 ∷ []) ∷ (0 ∷ []) ∷ (0 ∷ []) ∷ [])
+        ≡ (use_at 0 4 ∷ []) ∷ (use_at 1 2 ∷ []) ∷ (use_at 0 4 ∷ []) ∷ (use_at 0 4 ∷ []) ∷ [] }
 {}

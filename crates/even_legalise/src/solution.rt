@@ -24,7 +24,8 @@ pub fn uniform_solution(
     requires joined { JoinsEachNet problem.now trees.now }
     ensures ratios { IfOk result (λ solution. solution ≡ uniform_routing problem.now trees.now) }
     ensures legal { IfOk result (λ solution. IsLegal problem.now solution) }
-    ensures small { IfOk result (λ solution. All (λ uses. All (λ ratio. ratio < 2 ^ 32) (ratios_of uses)) solution) }
+    ensures small { IfOk result (λ solution. All
+        (λ uses. All (λ ratio. ratio < 2 ^ 32) (ratios_of uses)) solution) }
     ensures rising { IfOk result HasRisingWires }
 {
     let counts = nets_on_wires(alloc, trees, problem.wires())?;
@@ -56,7 +57,8 @@ fn set_uses(uses: &mut Vec<WireUse>, wires: &[u32], counts: &[u32]) -> Result<()
     requires there { All (λ e. e < length counts.now) wires.now }
     requires some { All (λ e. 1 ≤ slice_index counts.now e) wires.now }
     requires few { All (λ e. slice_index counts.now e ≤ 2 ^ 20) wires.now }
-    ensures { OnOk result (uses.new.items ≡ map (λ e. record { wire = e; ratio = uniform_ratio (slice_index counts.now e) LANES }) wires.now) }
+    ensures { OnOk result (uses.new.items ≡ map
+        (λ e. record { wire = e; ratio = uniform_ratio (slice_index counts.now e) LANES }) wires.now) }
 {
     uses.clear();
     for e in wires {

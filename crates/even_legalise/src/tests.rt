@@ -15,7 +15,13 @@ fn uniform_ratios_round_up_twice(rt: HostRuntime) {
 
 /// Two FPGAs, one wire between them, and three nets over it in one group.
 fn three_nets_on_a_wire(alloc: Global) -> Result<Problem, AllocError>
-    ensures { IfOk result (λ p. p ≡ record { fpgas = 2; wires = record { a = 0; b = 1 } ∷ []; nets = (0 ∷ 1 ∷ []) ∷ (0 ∷ 1 ∷ []) ∷ (0 ∷ 1 ∷ []) ∷ []; groups = (0 ∷ 1 ∷ 2 ∷ []) ∷ [] }) }
+    ensures { IfOk result (λ p. p ≡ record {
+      fpgas = 2;
+      wires = record { a = 0; b = 1 } ∷ [];
+      nets =
+          (0 ∷ 1 ∷ []) ∷ (0 ∷ 1 ∷ []) ∷ (0 ∷ 1 ∷ []) ∷ [];
+      groups = (0 ∷ 1 ∷ 2 ∷ []) ∷ [];
+    }) }
 {
     let mut draft = ProblemDraft::new(alloc, 2);
     draft.push_wire(Wire { a: 0, b: 1 })?;

@@ -14,7 +14,8 @@ with_item counts ratio = map.insert counts ratio (count_of counts ratio + 1)
 -- the counts with one item of the ratio less; no ratio stays with no item
 abbrev pub without_item : map.FinMap nat_cmp ℕ → ℕ → map.FinMap nat_cmp ℕ
 without_item counts ratio =
-    if count_of counts ratio == 1 then map.remove counts ratio else map.insert counts ratio (count_of counts ratio - 1)
+    if count_of counts ratio == 1 then map.remove counts ratio
+    else map.insert counts ratio (count_of counts ratio - 1)
 
 -- all items, ratios rising
 abbrev pub items : map.FinMap nat_cmp ℕ → List ℕ

@@ -22,4 +22,5 @@ counted ratio es = unwrap_or (lookup (is_at (nat_cmp ratio)) es) 0
 -- the entries with one item of the ratio less
 abbrev pub one_less : ℕ → List (ℕ × ℕ) → List (ℕ × ℕ)
 one_less ratio es =
-    if counted ratio es == 1 then remove_entry (is_at (nat_cmp ratio)) es else set_value (is_at (nat_cmp ratio)) es (counted ratio es - 1)
+    if counted ratio es == 1 then remove_entry (is_at (nat_cmp ratio)) es
+    else set_value (is_at (nat_cmp ratio)) es (counted ratio es - 1)

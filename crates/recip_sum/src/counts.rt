@@ -160,8 +160,10 @@ fn make_room(terms: &mut Vec<Term>, ratios: usize) -> Result<(), AllocError>
 /// Counts one item of the ratio more.
 fn count_one_more(counts: &mut BTreeMap<u32, u32>, ratio: u32) -> Result<(), AllocError>
     requires { counted ratio counts.old.entries < 2 ^ 20 }
-    ensures entries { OnOk result (counts.new.entries ≡ insert_entry nat_cmp counts.old.entries ratio (counted ratio counts.old.entries + 1)) }
-    ensures updates { OnOk result (Updates nat_cmp counts.old counts.new ratio (Some (counted ratio counts.old.entries + 1))) }
+    ensures entries { OnOk result (counts.new.entries
+        ≡ insert_entry nat_cmp counts.old.entries ratio (counted ratio counts.old.entries + 1)) }
+    ensures updates { OnOk result (Updates nat_cmp counts.old counts.new ratio
+        (Some (counted ratio counts.old.entries + 1))) }
     ensures len { OnOk result (btree_map_len counts.new ≤ btree_map_len counts.old + 1) }
     ensures err { OnErr result (IsUnchanged counts.old counts.new) }
     ensures ordered { IsOrdered nat_cmp counts.new }
@@ -175,7 +177,9 @@ fn count_one_more(counts: &mut BTreeMap<u32, u32>, ratio: u32) -> Result<(), All
 fn count_one_less(counts: &mut BTreeMap<u32, u32>, ratio: u32)
     requires { 0 < counted ratio counts.old.entries }
     ensures entries { counts.new.entries ≡ one_less ratio counts.old.entries }
-    ensures updates { Updates nat_cmp counts.old counts.new ratio (if counted ratio counts.old.entries == 1 then None else Some (counted ratio counts.old.entries - 1)) }
+    ensures updates { Updates nat_cmp counts.old counts.new ratio
+        (if counted ratio counts.old.entries == 1 then None else Some
+        (counted ratio counts.old.entries - 1)) }
     ensures len { btree_map_len counts.new ≤ btree_map_len counts.old }
     ensures ordered { IsOrdered nat_cmp counts.new }
 {

@@ -20,11 +20,13 @@ pub record IsParent (board : Board) (source v e u : ℕ) : Type 0 where
 -- the wires are those from FPGA v to FPGA u, each the parent wire of where it begins
 abbrev pub IsParentChain : Board → ℕ → ℕ → List ℕ → ℕ → Type 0
 IsParentChain board source v [] u = v ≡ u
-IsParentChain board source v (e ∷ es) u = (x : ℕ) × IsParent board source v e x × IsParentChain board source x es u
+IsParentChain board source v (e ∷ es) u = (x : ℕ) × IsParent board source v e x
+    × IsParentChain board source x es u
 
 -- wire e is on the parent chain of one of the FPGAs to the source
 abbrev pub IsOnChain : Board → ℕ → List ℕ → ℕ → Type 0
-IsOnChain board source fpgas e = (t : ℕ) × Contains fpgas t × ((es : List ℕ) × IsParentChain board source t es source × Contains es e)
+IsOnChain board source fpgas e = (t : ℕ) × Contains fpgas t
+    × ((es : List ℕ) × IsParentChain board source t es source × Contains es e)
 
 -- the wires, rising, are the union of the parent chains of the FPGAs, each of which has one
 pub record IsBaseTree (board : Board) (source : ℕ) (fpgas : List ℕ) (wires : List ℕ) : Type 0 where
@@ -35,4 +37,5 @@ pub record IsBaseTree (board : Board) (source : ℕ) (fpgas : List ℕ) (wires :
 -- each net of the board has its baseline tree
 pub record AreBaseTrees (board : Board) (trees : List (List ℕ)) : Type 0 where
   pub nets : length trees ≡ length board.nets
-  pub each : (n : ℕ) → n < length board.nets → IsBaseTree board (source_of board n) (terminals_of board n) (tree_of trees n)
+  pub each : (n : ℕ) → n < length board.nets
+      → IsBaseTree board (source_of board n) (terminals_of board n) (tree_of trees n)

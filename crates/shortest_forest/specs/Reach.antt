@@ -27,15 +27,19 @@ HasNoWalk board a b = (es : List ℕ) → ¬ IsWalk board (AnyWire board) a es b
 -- the distances are the numbers of hops from a source, and None where no walk leads
 pub record AreHops (board : Board) (source : ℕ) (distances : List (Option ℕ)) : Type 0 where
   pub count : length distances ≡ board.fpgas
-  pub exact : (f : ℕ) → f < board.fpgas → MatchOption (slice_index_or distances f None) (HasNoWalk board source f) (IsHopCount board source f)
+  pub exact : (f : ℕ) → f < board.fpgas
+      → MatchOption (slice_index_or distances f None) (HasNoWalk board source f) (IsHopCount board source f)
 
 -- the distances and parent wires are those of the board from the root, and each parent chain is shorter than the board has FPGAs
 pub record HasHops (board : Board) (reach : Reach) : Type 0 where
   pub root : reach.root < board.fpgas
   pub distances : AreHops board reach.root reach.distances
   pub count : length reach.parents ≡ board.fpgas
-  pub parents : (f : ℕ) → f < board.fpgas → MatchOption (parent_of reach f) ((f ≡ reach.root) ⊎ (distance_of reach f ≡ None)) (λ e. (u : ℕ) × IsParent board reach.root f e u)
-  pub chains : (f d : ℕ) → distance_of reach f ≡ Some d → (es : List ℕ) × IsParentChain board reach.root f es reach.root × (length es ≡ d) × (d < board.fpgas)
+  pub parents : (f : ℕ) → f < board.fpgas
+      → MatchOption (parent_of reach f) ((f ≡ reach.root) ⊎ (distance_of reach f ≡ None))
+      (λ e. (u : ℕ) × IsParent board reach.root f e u)
+  pub chains : (f d : ℕ) → distance_of reach f ≡ Some d
+      → (es : List ℕ) × IsParentChain board reach.root f es reach.root × (length es ≡ d) × (d < board.fpgas)
 
 -- the distances and parent wires are those of each board with these FPGAs and wires
 pub record IsHopForest (graph : Graph) (reach : Reach) : Type 0 where

@@ -24,8 +24,10 @@ pub fn base_tree(
     requires hops { IsHopForest graph.now forest.now }
     requires there { All (λ t. t < graph.now.fpgas) terminals.now }
     requires rooted { Contains terminals.now forest.now.root }
-    ensures none { IfOk result (λ tree. IfNone tree ((board : Board) → graph.now ≡ graph_of board → ¬ IsConnectable board terminals.now)) }
-    ensures some { IfOk result (λ tree. OnSome tree ((board : Board) → graph.now ≡ graph_of board → IsConnectable board terminals.now)) }
+    ensures none { IfOk result (λ tree. IfNone tree ((board : Board) → graph.now ≡ graph_of board
+        → ¬ IsConnectable board terminals.now)) }
+    ensures some { IfOk result (λ tree. OnSome tree ((board : Board) → graph.now ≡ graph_of board
+        → IsConnectable board terminals.now)) }
     ensures base { IfOk result (λ tree. IfSome tree (λ wires. (board : Board) → graph.now ≡ graph_of board
         → IsBaseTree board forest.now.root terminals.now wires.items)) }
     ensures minimal { IfOk result (λ tree. IfSome tree (λ wires. (board : Board) → graph.now ≡ graph_of board
@@ -55,12 +57,15 @@ fn climb(
     requires hops { IsHopForest graph.now forest.now }
     requires there { from < graph.now.fpgas }
     requires reached { IsSome (distance_of forest.now from) }
-    requires collected { IsCollected (board_of graph.now) forest.now marks.old.items wires.old.items (IsMarked marks.old.items) }
-    ensures collected { OnOk result (IsCollected (board_of graph.now) forest.now marks.new.items wires.new.items (IsMarked marks.new.items)) }
+    requires collected { IsCollected (board_of graph.now) forest.now marks.old.items wires.old.items
+        (IsMarked marks.old.items) }
+    ensures collected { OnOk result (IsCollected
+        (board_of graph.now) forest.now marks.new.items wires.new.items (IsMarked marks.new.items)) }
     ensures marked { OnOk result (IsMarked marks.new.items from) }
     ensures kept { OnOk result ((f : ℕ) → IsMarked marks.old.items f → IsMarked marks.new.items f) }
     ensures above { OnOk result ((f : ℕ) → IsMarked marks.new.items f
-        → IsMarked marks.old.items f ⊎ ((es : List ℕ) × IsParentChain (board_of graph.now) forest.now.root from es f)) }
+        → IsMarked marks.old.items f ⊎ ((es : List ℕ)
+        × IsParentChain (board_of graph.now) forest.now.root from es f)) }
 {
     let mut f = from;
     while !marks[f as usize] {

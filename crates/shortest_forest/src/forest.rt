@@ -83,7 +83,8 @@ fn parents_of(
     ensures graph { IsGraph graph.now }
     ensures count { IfOk result (λ parents. length parents.items ≡ graph.now.fpgas) }
     ensures exact { IfOk result (λ parents. (f : ℕ) → f < graph.now.fpgas
-        → MatchOption (slice_index_or parents.items f None) ((e d : ℕ) → ¬ LeadsNearer (board_of graph.now) distances.now f e d)
+        → MatchOption (slice_index_or parents.items f None) ((e d : ℕ)
+        → ¬ LeadsNearer (board_of graph.now) distances.now f e d)
         (λ e. IsFirstNearer (board_of graph.now) distances.now f e)) }
 {
     let fpgas = graph.fpgas();

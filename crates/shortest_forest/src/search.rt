@@ -38,7 +38,8 @@ fn pass(
 ) -> Result<(), AllocError>
     requires search { IsSearch (board_of graph.now) distances.old.items queue.old.items head }
     requires waiting { head < length queue.old.items }
-    ensures search { OnOk result (IsSearch (board_of graph.now) distances.new.items queue.new.items (head + 1)) }
+    ensures search { OnOk result (IsSearch (board_of graph.now) distances.new.items queue.new.items
+        (head + 1)) }
     ensures first { OnOk result (slice_index queue.new.items 0 ≡ slice_index queue.old.items 0) }
 {
     let f = queue[head];

@@ -12,9 +12,11 @@ abbrev pub IsVerdict : Board → Routing → Verdict → Type 0
 IsVerdict board routing (Legal value) = IsLegal board routing × (value ≡ value_of board routing)
 IsVerdict board routing (NotJoined net) = IsFirstWithout (IsJoined board routing) (length board.nets) net
 IsVerdict board routing (BadRatio net wire ratio) =
-    AllBelow (IsJoined board routing) (length board.nets) × IsFirstBadUse routing net (record { wire = wire; ratio = ratio })
+    AllBelow (IsJoined board routing) (length board.nets)
+    × IsFirstBadUse routing net (record { wire = wire; ratio = ratio })
 IsVerdict board routing (Overfull wire) =
-    AllBelow (IsJoined board routing) (length board.nets) × AllBelow (HasEvenRatios routing) (length board.nets)
+    AllBelow (IsJoined board routing) (length board.nets)
+    × AllBelow (HasEvenRatios routing) (length board.nets)
     × IsFirstWithout (IsFitting board routing) (length board.wires) wire
 
 -- the verdict says that the solution is legal

@@ -16,7 +16,8 @@ pub(crate) struct BadUse {
 
 /// The first use with a ratio that is 0 or odd: nets rising, and wires rising within a net.
 pub(crate) fn first_bad_use(solution: &Solution) -> Option<BadUse>
-    ensures { MatchOption result (AllBelow (HasEvenRatios solution.now) (length solution.now)) (λ bad. IsFirstBadUse solution.now bad.net bad.wire_use) }
+    ensures { MatchOption result (AllBelow (HasEvenRatios solution.now) (length solution.now))
+        (λ bad. IsFirstBadUse solution.now bad.net bad.wire_use) }
 {
     for n in 0..solution.nets() {
         if let Some(wire_use) = lowest_bad_use(solution.uses(n)) {

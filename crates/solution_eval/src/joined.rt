@@ -27,7 +27,9 @@ pub(crate) fn first_not_joined(
     solution: &Solution,
 ) -> Result<Option<u32>, AllocError>
     requires { IsFor problem.now solution.now }
-    ensures { IfOk result (λ found. MatchOption found (AllBelow (IsJoined problem.now solution.now) (length problem.now.nets)) (IsFirstWithout (IsJoined problem.now solution.now) (length problem.now.nets))) }
+    ensures { IfOk result (λ found. MatchOption found
+        (AllBelow (IsJoined problem.now solution.now) (length problem.now.nets))
+        (IsFirstWithout (IsJoined problem.now solution.now) (length problem.now.nets))) }
 {
     let mut workspace = Workspace {
         marks: vec![in alloc; 0u32; problem.fpgas() as usize]?,
@@ -60,7 +62,8 @@ fn is_joined(
     requires net { IsRowBelow problem.now.fpgas fpgas.now }
     requires size { length workspace.old.marks.items ≡ problem.now.fpgas }
     requires new { All (λ m. m < mark) workspace.old.marks.items }
-    ensures joined { IfOk result (λ joined. IsTrue joined ↔ Joins problem.now (Contains (wires_of uses.now)) fpgas.now) }
+    ensures joined { IfOk result (λ joined. IsTrue joined
+        ↔ Joins problem.now (Contains (wires_of uses.now)) fpgas.now) }
     ensures size { OnOk result (length workspace.new.marks.items ≡ problem.now.fpgas) }
     ensures highest { OnOk result (All (λ m. m ≤ mark) workspace.new.marks.items) }
 {

@@ -33,7 +33,8 @@ pub fn judge(alloc: Global, problem: &Problem, solution: &Solution) -> Result<Ve
     requires { IsFor problem.now solution.now }
     ensures verdict { IfOk result (λ verdict. IsVerdict problem.now solution.now verdict) }
     ensures legal { IfOk result (λ verdict. SaysLegal verdict ↔ IsLegal problem.now solution.now) }
-    ensures only { IfOk result (λ verdict. (other : Verdict) → IsVerdict problem.now solution.now other → other ≡ verdict) }
+    ensures only { IfOk result (λ verdict. (other : Verdict)
+        → IsVerdict problem.now solution.now other → other ≡ verdict) }
 {
     if let Some(net) = first_not_joined(alloc, problem, solution)? {
         return Ok(Verdict::NotJoined { net });

@@ -19,7 +19,9 @@ pub(crate) fn first_overfull(
 ) -> Result<Option<u32>, AllocError>
     requires is_for { IsFor problem.now solution.now }
     requires even { AllBelow (HasEvenRatios solution.now) (length solution.now) }
-    ensures { IfOk result (λ found. MatchOption found (AllBelow (IsFitting problem.now solution.now) (length problem.now.wires)) (IsFirstWithout (IsFitting problem.now solution.now) (length problem.now.wires))) }
+    ensures { IfOk result (λ found. MatchOption found
+        (AllBelow (IsFitting problem.now solution.now) (length problem.now.wires))
+        (IsFirstWithout (IsFitting problem.now solution.now) (length problem.now.wires))) }
 {
     let mut counts = count_ratios(alloc, problem, solution)?;
     for e in 0..problem.wires() {
@@ -65,7 +67,9 @@ fn add_uses(counts: &mut [Counts], uses: &[WireUse]) -> Result<(), AllocError>
     requires positive { All (λ (u : WireUse). 0 < u.ratio) uses.now }
     requires room { (e : ℕ) → e < length counts.old → length (items_at counts.old e) < 2 ^ 20 }
     ensures size { OnOk result (length counts.new ≡ length counts.old) }
-    ensures counted { OnOk result ((e : ℕ) → e < length counts.old → SameReciprocals (items_at counts.new e) (items_at counts.old e ++ ratios_of (filter (λ u. u.wire == e) uses.now))) }
+    ensures counted { OnOk result ((e : ℕ) → e < length counts.old
+        → SameReciprocals (items_at counts.new e)
+        (items_at counts.old e ++ ratios_of (filter (λ u. u.wire == e) uses.now))) }
 {
     for wire_use in uses {
         counts[wire_use.wire as usize].add(wire_use.ratio)?;

@@ -38,7 +38,8 @@ fn steps_from(steps: &[Step], fpga: u32) -> &[Step]
 fn reach(fpga: u32, mark: u32, marks: &mut [u32], queue: &mut Vec<u32>) -> Result<(), AllocError>
     requires { fpga < length marks.old }
     ensures marks { OnOk result (marks.new ≡ slice_set marks.old fpga mark) }
-    ensures queue { OnOk result (queue.new.items ≡ (if slice_index marks.old fpga == mark then queue.old.items else queue.old.items ++ fpga ∷ [])) }
+    ensures queue { OnOk result (queue.new.items
+        ≡ (if slice_index marks.old fpga == mark then queue.old.items else queue.old.items ++ fpga ∷ [])) }
 {
     if marks[fpga as usize] != mark {
         queue.push(fpga)?;
@@ -94,7 +95,8 @@ fn spread(
     ensures size { OnOk result (length marks.new ≡ length marks.old) }
     ensures source { OnOk result (slice_index marks.new (slice_index queue.old.items 0) ≡ mark) }
     ensures led { OnOk result (All (Leads steps.now (slice_index queue.old.items 0)) queue.new.items) }
-    ensures closed { OnOk result ((v w : ℕ) → v < length marks.old → slice_index marks.new v ≡ mark → Contains steps.now (record { from = v; to = w }) → slice_index marks.new w ≡ mark) }
+    ensures closed { OnOk result ((v w : ℕ) → v < length marks.old → slice_index marks.new v ≡ mark
+        → Contains steps.now (record { from = v; to = w }) → slice_index marks.new w ≡ mark) }
 {
     let mut next = 0;
     while next < queue.len() {
@@ -127,7 +129,8 @@ pub(crate) fn leads_to_all(
     requires some { 0 < length fpgas.now }
     requires fpgas_there { All (λ f. f < length marks.old) fpgas.now }
     requires new { All (λ m. m < mark) marks.old }
-    ensures leads { IfOk result (λ leads. IsTrue leads ↔ All (Leads steps.now (slice_index fpgas.now 0)) fpgas.now) }
+    ensures leads { IfOk result (λ leads. IsTrue leads
+        ↔ All (Leads steps.now (slice_index fpgas.now 0)) fpgas.now) }
     ensures size { OnOk result (length marks.new ≡ length marks.old) }
     ensures highest { OnOk result (All (λ m. m ≤ mark) marks.new) }
 {

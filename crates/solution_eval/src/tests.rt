@@ -9,7 +9,13 @@ use tdm_problem::{Problem, ProblemDraft, Solution, Wire, WireUse};
 
 /// Two FPGAs and one wire between them, with one net in one group.
 fn one_net(alloc: Global) -> Result<Problem, AllocError>
-    ensures { IfOk result (λ p. p ≡ record { fpgas = 2; wires = record { a = 0; b = 1 } ∷ []; nets = (0 ∷ 1 ∷ []) ∷ []; groups = (0 ∷ []) ∷ [] }) }
+    ensures { IfOk result (λ p. p ≡ record {
+      fpgas = 2;
+      wires = record { a = 0; b = 1 } ∷ [];
+      nets =
+          (0 ∷ 1 ∷ []) ∷ [];
+      groups = (0 ∷ []) ∷ [];
+    }) }
 {
     let mut draft = ProblemDraft::new(alloc, 2);
     draft.push_wire(Wire { a: 0, b: 1 })?;
@@ -32,7 +38,13 @@ fn one_net_and_two_wires(alloc: Global) -> Result<Problem, AllocError>
 
 /// Two FPGAs and one wire between them, with three nets in one group.
 fn three_nets(alloc: Global) -> Result<Problem, AllocError>
-    ensures { IfOk result (λ p. p ≡ record { fpgas = 2; wires = record { a = 0; b = 1 } ∷ []; nets = (0 ∷ 1 ∷ []) ∷ (0 ∷ 1 ∷ []) ∷ (0 ∷ 1 ∷ []) ∷ []; groups = (0 ∷ 1 ∷ 2 ∷ []) ∷ [] }) }
+    ensures { IfOk result (λ p. p ≡ record {
+      fpgas = 2;
+      wires = record { a = 0; b = 1 } ∷ [];
+      nets =
+          (0 ∷ 1 ∷ []) ∷ (0 ∷ 1 ∷ []) ∷ (0 ∷ 1 ∷ []) ∷ [];
+      groups = (0 ∷ 1 ∷ 2 ∷ []) ∷ [];
+    }) }
 {
     let mut draft = ProblemDraft::new(alloc, 2);
     draft.push_wire(Wire { a: 0, b: 1 })?;
@@ -45,7 +57,14 @@ fn three_nets(alloc: Global) -> Result<Problem, AllocError>
 
 /// Two FPGAs and one wire between them, with four nets in one group.
 fn four_nets(alloc: Global) -> Result<Problem, AllocError>
-    ensures { IfOk result (λ p. p ≡ record { fpgas = 2; wires = record { a = 0; b = 1 } ∷ []; nets = (0 ∷ 1 ∷ []) ∷ (0 ∷ 1 ∷ []) ∷ (0 ∷ 1 ∷ []) ∷ (0 ∷ 1 ∷ []) ∷ []; groups = (0 ∷ 1 ∷ 2 ∷ 3 ∷ []) ∷ [] }) }
+    ensures { IfOk result (λ p. p ≡ record {
+      fpgas = 2;
+      wires = record { a = 0; b = 1 } ∷ [];
+      nets =
+          (0 ∷ 1 ∷ []) ∷ (0 ∷ 1 ∷ []) ∷ (0 ∷ 1 ∷ []) ∷ (0 ∷ 1 ∷ []) ∷ [];
+      groups =
+          (0 ∷ 1 ∷ 2 ∷ 3 ∷ []) ∷ [];
+    }) }
 {
     let mut draft = ProblemDraft::new(alloc, 2);
     draft.push_wire(Wire { a: 0, b: 1 })?;

@@ -25,7 +25,8 @@ refused kind line = Err (record { kind = kind; line = line })
 
 infixl 10 ◌>>=◌
 -- the first refusal stands
-abbrev pub ◌>>=◌ : {A B : Type 0} → Result A SolutionRefusal → (A → Result B SolutionRefusal) → Result B SolutionRefusal
+abbrev pub ◌>>=◌ : {A B : Type 0} → Result A SolutionRefusal → (A → Result B SolutionRefusal)
+    → Result B SolutionRefusal
 (Ok said) >>= next = next said
 (Err refusal) >>= next = Err refusal
 

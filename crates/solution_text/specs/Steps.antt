@@ -9,7 +9,8 @@ use Rattle.solution_text.specs.Fault.{IsFaultOf}
 use Rattle.solution_text.specs.Reading.{◌>>=◌}
 
 -- reading comes to what it comes to after this answer, or the answer is the fault
-abbrev pub Leads : {X A : Type 0} → Result X SolutionFault → Result A SolutionRefusal → (X → Result A SolutionRefusal) → Type 0
+abbrev pub Leads : {X A : Type 0} → Result X SolutionFault → Result A SolutionRefusal
+    → (X → Result A SolutionRefusal) → Type 0
 Leads (Ok x) read after = read ≡ after x
 Leads (Err fault) read after = IsFaultOf fault read
 
@@ -22,5 +23,6 @@ with_nets routing read = do
 -- the wires that bear the stamp are those of the uses, which are all different
 pub record Marks (stamps : List ℕ) (stamp : ℕ) (uses : List WireUse) : Type 0 where
   pub no_later : All (λ s. s ≤ stamp) stamps
-  pub of_uses : (wire : ℕ) → wire < length stamps → (slice_index stamps wire == stamp) ≡ list_any (λ u. u.wire == wire) uses
+  pub of_uses : (wire : ℕ) → wire < length stamps → (slice_index stamps wire == stamp)
+      ≡ list_any (λ u. u.wire == wire) uses
   pub distinct : IsDistinct nat_eq (wires_of uses)

@@ -18,7 +18,8 @@ most_uses = 2 ^ 25
 pub record IsBaseline (board : Board) (routing : Routing) : Type 0 where
   pub joined : AllConnectable board
   pub legal : IsLegal board routing
-  pub minimal : (n : ℕ) → n < length board.nets → IsMinimalTree board (wires_of (uses_of routing n)) (terminals_of board n)
+  pub minimal : (n : ℕ) → n < length board.nets
+      → IsMinimalTree board (wires_of (uses_of routing n)) (terminals_of board n)
   pub base : AreBaseTrees board (trees_of routing)
   pub uniform : routing ≡ uniform_routing board (trees_of routing)
   pub few : sum_by length routing ≤ most_uses
@@ -27,7 +28,8 @@ pub record IsBaseline (board : Board) (routing : Routing) : Type 0 where
 -- all nets whose FPGAs no wires join, rising
 pub record AreUnconnectable (board : Board) (nets : List ℕ) : Type 0 where
   pub rising : IsStrictlyIncreasing nets
-  pub exact : (n : ℕ) → Contains nets n ↔ ((n < length board.nets) × (IsConnectable board (terminals_of board n) → ⊥))
+  pub exact : (n : ℕ) → Contains nets n ↔ ((n < length board.nets)
+      × (IsConnectable board (terminals_of board n) → ⊥))
 
 -- all nets can be joined, but the baseline trees have more wires together than a solution may use
 pub record IsOverUseLimit (board : Board) : Type 0 where

@@ -12,8 +12,12 @@ use Rattle.tdm_cli.specs.Promises.{Describes, BoardCallsFor}
 
 -- the board was not had, and no other input and no output was touched; or it was had, and the run with it came to this end
 abbrev pub BoardFirstEnds : (before after : Seen) → Name → (Board → Status → Type 0) → Status → Type 0
-BoardFirstEnds before after name Ends answer = (BoardInputEnds before after name answer × TouchesOnly In0 before after) ⊎ ((board : Board) × IsBoardFile before name board × Ends board answer)
+BoardFirstEnds before after name Ends answer =
+    (BoardInputEnds before after name answer × TouchesOnly In0 before after)
+    ⊎ ((board : Board) × IsBoardFile before name board × Ends board answer)
 
 -- the board's file decides which status the files ask for, and where it is a board, what comes behind it
 abbrev pub BoardFirstCallsFor : Files → Name → (Board → Status → Type 0) → Status → Type 0
-BoardFirstCallsFor files name CallsFor answer = BoardCallsFor files name answer ⊎ ((board : Board) × Describes files name board × CallsFor board answer)
+BoardFirstCallsFor files name CallsFor answer =
+    BoardCallsFor files name answer
+    ⊎ ((board : Board) × Describes files name board × CallsFor board answer)

@@ -37,4 +37,5 @@ pub record IsBestCert (board : Board) (cert : Cert) : Type 0 where
   pub is_hop : IsHopProof board hop
   pub share : Cert
   pub is_share : IsShareProof board share
-  pub better : ((cert ≡ hop) × (bound_of board share ≤ bound_of board hop)) ⊎ ((cert ≡ share) × (bound_of board hop < bound_of board share))
+  pub better : ((cert ≡ hop) × (bound_of board share ≤ bound_of board hop))
+      ⊎ ((cert ≡ share) × (bound_of board hop < bound_of board share))

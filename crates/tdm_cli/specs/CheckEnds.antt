@@ -28,20 +28,25 @@ status_of (Rejected pair) = status.CertRejected
 module _ (before after : Seen) where
   -- no certificate for the board was had from the file of this name, the second input
   abbrev pub CertInputEnds : Board → Name → Status → Type 0
-  CertInputEnds board name status.CertRefused = (refusal : CertRefusal) × IsRefusedCert before name board refusal × Says before after (cert_refused_report (name_of refusal.kind) refusal.line)
+  CertInputEnds board name status.CertRefused = (refusal : CertRefusal)
+      × IsRefusedCert before name board refusal
+      × Says before after (cert_refused_report (name_of refusal.kind) refusal.line)
   CertInputEnds board name answer = UnreadEnds before after 2 name answer
 
   -- the certificate is valid and its bound was said, or it is not and its first steep pair was said
   abbrev pub AnswerEnds : Board → Cert → Status → Type 0
-  AnswerEnds board cert status.Ok = IsValid board cert × Says before after (bound_report (bound_of board cert))
-  AnswerEnds board cert status.CertRejected = (pair : Steep) × IsFirstSteep board cert pair × Says before after (steep_report pair)
+  AnswerEnds board cert status.Ok = IsValid board cert
+      × Says before after (bound_report (bound_of board cert))
+  AnswerEnds board cert status.CertRejected = (pair : Steep) × IsFirstSteep board cert pair
+      × Says before after (steep_report pair)
   AnswerEnds board cert status.WriteFault = OnlySpoke before after
   AnswerEnds board cert status.OutOfMemory = OnlySpoke before after
   AnswerEnds board cert _ = ⊥
 
   -- the certificate for this board was not had, or it was and was checked
   abbrev pub CheckingEnds : Board → Name → Status → Type 0
-  CheckingEnds board name answer = CertInputEnds board name answer ⊎ ((cert : Cert) × IsCertFile before name board cert × AnswerEnds board cert answer)
+  CheckingEnds board name answer = CertInputEnds board name answer
+      ⊎ ((cert : Cert) × IsCertFile before name board cert × AnswerEnds board cert answer)
 
   -- the board was not had, or it was and its certificate came to this end
   abbrev pub CheckEnds : Name → Name → Status → Type 0

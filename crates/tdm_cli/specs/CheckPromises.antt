@@ -21,13 +21,16 @@ use Rattle.tdm_cli.specs.Reports.{bound_report, steep_report}
 
 -- the file of this name is there and is the text of this certificate for the board
 abbrev pub Certifies : Files → Name → Board → Cert → Type 0
-Certifies files name board cert = (bytes : Bytes) × (get files name ≡ Some bytes) × (cert_of board bytes ≡ Ok cert)
+Certifies files name board cert = (bytes : Bytes) × (get files name ≡ Some bytes)
+    × (cert_of board bytes ≡ Ok cert)
 
 -- the status that the files ask for of a certificate for this board, where nothing outside fails and memory is there
 abbrev pub CertCallsFor : Files → Board → Name → Status → Type 0
 CertCallsFor files board name status.NoInput = get files name ≡ None
-CertCallsFor files board name status.CertRefused = (bytes : Bytes) × (refusal : CertRefusal) × (get files name ≡ Some bytes) × (cert_of board bytes ≡ Err refusal)
-CertCallsFor files board name status.CertRejected = (cert : Cert) × Certifies files name board cert × (IsValid board cert → ⊥)
+CertCallsFor files board name status.CertRefused = (bytes : Bytes) × (refusal : CertRefusal)
+    × (get files name ≡ Some bytes) × (cert_of board bytes ≡ Err refusal)
+CertCallsFor files board name status.CertRejected = (cert : Cert) × Certifies files name board cert
+    × (IsValid board cert → ⊥)
 CertCallsFor files board name status.Ok = (cert : Cert) × Certifies files name board cert × IsValid board cert
 CertCallsFor files board name _ = ⊥
 
@@ -61,4 +64,6 @@ pub record IsRejected (files : Files) (name cert : Name) (before after : Seen) :
 
 -- no legal solution of a board has a value below the bound of a certificate that is accepted for it, whoever made it
 abbrev pub BoundsHold : Type 0
-BoundsHold = (board_text cert_text : Bytes) (board : Board) (cert : Cert) → board_of board_text ≡ Ok board → cert_of board cert_text ≡ Ok cert → IsValid board cert → IsLowerBound board (bound_of board cert)
+BoundsHold = (board_text cert_text : Bytes) (board : Board) (cert : Cert)
+    → board_of board_text ≡ Ok board → cert_of board cert_text ≡ Ok cert → IsValid board cert
+    → IsLowerBound board (bound_of board cert)

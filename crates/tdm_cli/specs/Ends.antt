@@ -42,28 +42,35 @@ module _ (before after : Seen) where
 
   -- no board was had from the file of this name, the first input
   abbrev pub BoardInputEnds : Name → Status → Type 0
-  BoardInputEnds board status.BoardRefused = (refusal : BoardRefusal) × IsRefusedFile before board refusal × Says before after (board_refused_report (name_of refusal.kind) refusal.line)
+  BoardInputEnds board status.BoardRefused = (refusal : BoardRefusal)
+      × IsRefusedFile before board refusal
+      × Says before after (board_refused_report (name_of refusal.kind) refusal.line)
   BoardInputEnds board answer = UnreadEnds 1 board answer
 
   -- the file of this name is as it was, or holds a first part of the text; no other file changed
   abbrev pub MayHoldPart : Name → Bytes → Type 0
-  MayHoldPart name text = OnlySpoke ⊎ ((count : ℕ) × (more : Bytes) × Changes before after (with_file name (take count text)) more)
+  MayHoldPart name text = OnlySpoke
+      ⊎ ((count : ℕ) × (more : Bytes) × Changes before after (with_file name (take count text)) more)
 
   -- the first file is as it was or holds a first part of its text, or it holds the whole and the second holds a first
   -- part of its own; no other file changed
   abbrev pub MayHoldParts : Name → Bytes → Name → Bytes → Type 0
-  MayHoldParts first text second other = MayHoldPart first text ⊎ ((count : ℕ) × (more : Bytes) × Changes before after (with_two_files first text second (take count other)) more)
+  MayHoldParts first text second other = MayHoldPart first text
+      ⊎ ((count : ℕ) × (more : Bytes)
+      × Changes before after (with_two_files first text second (take count other)) more)
 
   -- the two texts were written to the files of these names and the report said, or not wholly
   abbrev pub DeliveryEnds : Name → Bytes → Name → Bytes → Bytes → Status → Type 0
-  DeliveryEnds first text second other report status.Ok = Changes before after (with_two_files first text second other) report
+  DeliveryEnds first text second other report status.Ok =
+      Changes before after (with_two_files first text second other) report
   DeliveryEnds first text second other report status.WriteFault = MayHoldParts first text second other
   DeliveryEnds first text second other report status.OutOfMemory = MayHoldParts first text second other
   DeliveryEnds first text second other report _ = ⊥
 
   -- the nets of this board have no baseline that may be written
   abbrev pub ObstacleEnds : Board → Status → Type 0
-  ObstacleEnds board status.Unconnectable = (nets : List ℕ) × AreUnconnectable board nets × (0 < length nets) × Says before after (unconnectable_report nets)
+  ObstacleEnds board status.Unconnectable = (nets : List ℕ) × AreUnconnectable board nets
+      × (0 < length nets) × Says before after (unconnectable_report nets)
   ObstacleEnds board status.UseLimit = IsOverUseLimit board × Says before after use_limit_report
   ObstacleEnds board status.WriteFault = OnlySpoke
   ObstacleEnds board status.OutOfMemory = OnlySpoke
@@ -71,8 +78,12 @@ module _ (before after : Seen) where
 
   -- the nets of this board were routed and the solution and a certificate written, or there was an obstacle
   abbrev pub NetsEnds : Board → Name → Name → Status → Type 0
-  NetsEnds board solution cert answer = ObstacleEnds board answer ⊎ ((routing : Routing) × (proof : Cert) × IsBaseline board routing × IsBestCert board proof × DeliveryEnds solution (solution_text routing) cert (cert_text proof) (route_report (value_of board routing) (bound_of board proof)) answer)
+  NetsEnds board solution cert answer = ObstacleEnds board answer
+      ⊎ ((routing : Routing) × (proof : Cert) × IsBaseline board routing × IsBestCert board proof
+      × DeliveryEnds solution (solution_text routing) cert (cert_text proof)
+      (route_report (value_of board routing) (bound_of board proof)) answer)
 
   -- the board was not had, or it was and its nets came to this end
   abbrev pub RouteEnds : Name → Name → Name → Status → Type 0
-  RouteEnds board solution cert answer = BoardInputEnds board answer ⊎ ((problem : Board) × IsBoardFile before board problem × NetsEnds problem solution cert answer)
+  RouteEnds board solution cert answer = BoardInputEnds board answer
+      ⊎ ((problem : Board) × IsBoardFile before board problem × NetsEnds problem solution cert answer)

@@ -29,20 +29,26 @@ status_of (Overfull wire) = status.Illegal
 module _ (before after : Seen) where
   -- no solution of the board was had from the file of this name, the second input
   abbrev pub SolutionInputEnds : Board → Name → Status → Type 0
-  SolutionInputEnds board solution status.SolutionRefused = (refusal : SolutionRefusal) × IsRefusedSolution before solution board refusal × Says before after (solution_refused_report (name_of refusal.kind) refusal.line)
+  SolutionInputEnds board solution status.SolutionRefused = (refusal : SolutionRefusal)
+      × IsRefusedSolution before solution board refusal
+      × Says before after (solution_refused_report (name_of refusal.kind) refusal.line)
   SolutionInputEnds board solution answer = UnreadEnds before after 2 solution answer
 
   -- the solution is legal and its value was said, or it is not and its first violation was said
   abbrev pub VerdictEnds : Board → Routing → Status → Type 0
-  VerdictEnds board routing status.Ok = IsLegal board routing × Says before after (value_report (value_of board routing))
-  VerdictEnds board routing status.Illegal = (verdict : Verdict) × IsVerdict board routing verdict × (IsLegal board routing → ⊥) × Says before after (verdict_report verdict)
+  VerdictEnds board routing status.Ok = IsLegal board routing
+      × Says before after (value_report (value_of board routing))
+  VerdictEnds board routing status.Illegal = (verdict : Verdict) × IsVerdict board routing verdict
+      × (IsLegal board routing → ⊥) × Says before after (verdict_report verdict)
   VerdictEnds board routing status.WriteFault = OnlySpoke before after
   VerdictEnds board routing status.OutOfMemory = OnlySpoke before after
   VerdictEnds board routing _ = ⊥
 
   -- the solution of this board was not had, or it was and was judged
   abbrev pub JudgingEnds : Board → Name → Status → Type 0
-  JudgingEnds board solution answer = SolutionInputEnds board solution answer ⊎ ((routing : Routing) × IsSolutionFile before solution board routing × VerdictEnds board routing answer)
+  JudgingEnds board solution answer = SolutionInputEnds board solution answer
+      ⊎ ((routing : Routing) × IsSolutionFile before solution board routing
+      × VerdictEnds board routing answer)
 
   -- the board was not had, or it was and its solution came to this end
   abbrev pub EvalEnds : Name → Name → Status → Type 0

@@ -18,19 +18,24 @@ use Rattle.tdm_cli.specs.Reports.{verdict_report}
 
 -- the file of this name is there and is the text of this solution of the board
 abbrev pub Proposes : Files → Name → Board → Routing → Type 0
-Proposes files name board routing = (bytes : Bytes) × (get files name ≡ Some bytes) × (solution_of board bytes ≡ Ok routing)
+Proposes files name board routing = (bytes : Bytes) × (get files name ≡ Some bytes)
+    × (solution_of board bytes ≡ Ok routing)
 
 -- the status that the files ask for of a solution of this board, where nothing outside fails and memory is there
 abbrev pub SolutionCallsFor : Files → Board → Name → Status → Type 0
 SolutionCallsFor files board name status.NoInput = get files name ≡ None
-SolutionCallsFor files board name status.SolutionRefused = (bytes : Bytes) × (refusal : SolutionRefusal) × (get files name ≡ Some bytes) × (solution_of board bytes ≡ Err refusal)
-SolutionCallsFor files board name status.Illegal = (routing : Routing) × Proposes files name board routing × (IsLegal board routing → ⊥)
-SolutionCallsFor files board name status.Ok = (routing : Routing) × Proposes files name board routing × IsLegal board routing
+SolutionCallsFor files board name status.SolutionRefused = (bytes : Bytes)
+    × (refusal : SolutionRefusal) × (get files name ≡ Some bytes) × (solution_of board bytes ≡ Err refusal)
+SolutionCallsFor files board name status.Illegal = (routing : Routing)
+    × Proposes files name board routing × (IsLegal board routing → ⊥)
+SolutionCallsFor files board name status.Ok = (routing : Routing)
+    × Proposes files name board routing × IsLegal board routing
 SolutionCallsFor files board name _ = ⊥
 
 -- the status that the files ask for of `eval`: the board's file decides, and where it is a board, the solution's file
 abbrev pub EvalCallsFor : Files → Name → Name → Status → Type 0
-EvalCallsFor files board solution = BoardFirstCallsFor files board (λ problem. SolutionCallsFor files problem solution)
+EvalCallsFor files board solution =
+    BoardFirstCallsFor files board (λ problem. SolutionCallsFor files problem solution)
 
 -- the verdict on the solution in one file of the board in the other is right and is said, and no file is changed
 pub record IsJudged (files : Files) (name solution : Name) (before after : Seen) (verdict : Verdict) : Type 0 where

@@ -24,7 +24,8 @@ IsAbsent seen name = ForSome (files_of seen) (λ files. get files name ≡ None)
 
 -- there is a file of this name, and its bytes are so
 abbrev pub FileIs : Seen → Name → (Bytes → Type 0) → Type 0
-FileIs seen name Holds = ForSome (files_of seen) (λ files. (bytes : Bytes) × (get files name ≡ Some bytes) × Holds bytes)
+FileIs seen name Holds =
+    ForSome (files_of seen) (λ files. (bytes : Bytes) × (get files name ≡ Some bytes) × Holds bytes)
 
 -- the file of this name is the text of this board
 abbrev pub IsBoardFile : Seen → Name → Board → Type 0

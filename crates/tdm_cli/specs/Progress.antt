@@ -30,7 +30,8 @@ pub record IsProgress (board : Board) (nets : ℕ) (trees : List (List ℕ)) (us
 
 -- there is a forest of least hops at this root
 abbrev pub HasForestAt : Graph → List (Option Reach) → ℕ → Type 0
-HasForestAt graph forests root = (reach : Reach) × (slice_index_or forests root None ≡ Some reach) × IsHopForest graph reach × (reach.root ≡ root)
+HasForestAt graph forests root = (reach : Reach) × (slice_index_or forests root None ≡ Some reach)
+    × IsHopForest graph reach × (reach.root ≡ root)
 
 -- there is a forest at the source of each of the first nets
 abbrev pub HasForests : Graph → Board → ℕ → List (Option Reach) → Type 0
@@ -44,4 +45,5 @@ pub record AreMarked (board : Board) (nets : ℕ) (marks : List Bool) : Type 0 w
 -- the forests of the first FPGAs are made where they are marked
 pub record AreMade (graph : Graph) (marks : List Bool) (roots : ℕ) (forests : List (Option Reach)) : Type 0 where
   pub count : length forests ≡ roots
-  pub made : (root : ℕ) → root < roots → slice_index_or marks root false ≡ true → HasForestAt graph forests root
+  pub made : (root : ℕ) → root < roots → slice_index_or marks root false ≡ true
+      → HasForestAt graph forests root

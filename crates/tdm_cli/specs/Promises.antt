@@ -43,16 +43,19 @@ Describes files name board = (bytes : Bytes) × (get files name ≡ Some bytes) 
 -- the status that the files ask for where the file of this name is no board
 abbrev pub BoardCallsFor : Files → Name → Status → Type 0
 BoardCallsFor files name status.NoInput = get files name ≡ None
-BoardCallsFor files name status.BoardRefused = (bytes : Bytes) × (refusal : BoardRefusal) × (get files name ≡ Some bytes) × (board_of bytes ≡ Err refusal)
+BoardCallsFor files name status.BoardRefused = (bytes : Bytes) × (refusal : BoardRefusal)
+    × (get files name ≡ Some bytes) × (board_of bytes ≡ Err refusal)
 BoardCallsFor files name _ = ⊥
 
 -- the status that the files ask for of `route`, where nothing outside fails and memory is there
 abbrev pub CallsFor : Files → Name → Status → Type 0
 CallsFor files name status.NoInput = BoardCallsFor files name status.NoInput
 CallsFor files name status.BoardRefused = BoardCallsFor files name status.BoardRefused
-CallsFor files name status.Unconnectable = (board : Board) × Describes files name board × SomeUnconnectable board
+CallsFor files name status.Unconnectable = (board : Board) × Describes files name board
+    × SomeUnconnectable board
 CallsFor files name status.UseLimit = (board : Board) × Describes files name board × IsOverUseLimit board
-CallsFor files name status.Ok = (board : Board) × Describes files name board × AllConnectable board × IsWithinUseLimit board
+CallsFor files name status.Ok = (board : Board) × Describes files name board × AllConnectable board
+    × IsWithinUseLimit board
 CallsFor files name _ = ⊥
 
 -- the answer shows a fault of the outside, or want of memory
@@ -69,7 +72,8 @@ pub record IsRouted (files : Files) (name solution cert : Name) (before after : 
   pub described : Describes files name board
   pub routing : Routing
   pub legal : IsLegal board routing
-  pub minimal : (n : ℕ) → n < length board.nets → IsMinimalTree board (wires_of (uses_of routing n)) (terminals_of board n)
+  pub minimal : (n : ℕ) → n < length board.nets
+      → IsMinimalTree board (wires_of (uses_of routing n)) (terminals_of board n)
   pub baseline : IsBaseline board routing
   pub proof : Cert
   pub best : IsBestCert board proof
@@ -77,8 +81,10 @@ pub record IsRouted (files : Files) (name solution cert : Name) (before after : 
   pub lower : IsLowerBound board (bound_of board proof)
   pub hop_floor : (floor : ℕ) → IsHopFloor board floor → floor ≤ bound_of board proof
   pub share_floor : (floor : ℕ) → IsShareFloor board floor → floor ≤ bound_of board proof
-  pub written : files_of after ≡ Some (with_two_files solution (solution_text routing) cert (cert_text proof) files)
+  pub written : files_of after
+      ≡ Some (with_two_files solution (solution_text routing) cert (cert_text proof) files)
   pub reads_back : solution_of board (solution_text routing) ≡ Ok routing
   pub cert_reads_back : cert_of board (cert_text proof) ≡ Ok proof
-  pub told : said_of after ≡ option_map (λ s. s ++ route_report (value_of board routing) (bound_of board proof)) (said_of before)
+  pub told : said_of after
+      ≡ option_map (λ s. s ++ route_report (value_of board routing) (bound_of board proof)) (said_of before)
   pub settled : IsSettled before after

@@ -68,7 +68,8 @@ use_limit_report = codes "too many uses" ++ 10 ∷ []
 abbrev pub verdict_report : Verdict → List ℕ
 verdict_report (Legal value) = value_report value
 verdict_report (NotJoined net) = counted (codes "illegal net ") net ++ (codes " not joined" ++ 10 ∷ [])
-verdict_report (BadRatio net wire ratio) = counted (codes "illegal net ") net ++ (counted (codes " wire ") wire ++ numbered (codes " ratio ") ratio)
+verdict_report (BadRatio net wire ratio) = counted (codes "illegal net ") net
+    ++ (counted (codes " wire ") wire ++ numbered (codes " ratio ") ratio)
 verdict_report (Overfull wire) = counted (codes "illegal wire ") wire ++ (codes " overfull" ++ 10 ∷ [])
 
 -- a potential of a certificate, and a wire along which it is too steep

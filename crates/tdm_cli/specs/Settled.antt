@@ -24,7 +24,8 @@ KeepsInputs before after = (slot : InSlot) → KeepsInput before after slot
 
 -- the inputs but this one are as they were
 abbrev pub KeepsOtherInputs : InSlot → Seen → Seen → Type 0
-KeepsOtherInputs read before after = (slot : InSlot) → (input_place read ≡ input_place slot → ⊥) → KeepsInput before after slot
+KeepsOtherInputs read before after = (slot : InSlot) → (input_place read ≡ input_place slot → ⊥)
+    → KeepsInput before after slot
 
 -- the outputs are open where they were
 abbrev pub KeepsOutputs : Seen → Seen → Type 0
@@ -32,7 +33,8 @@ KeepsOutputs before after = (slot : OutSlot) → output_is_open slot after ≡ o
 
 -- the outputs but this one are open where they were
 abbrev pub KeepsOtherOutputs : OutSlot → Seen → Seen → Type 0
-KeepsOtherOutputs out before after = (slot : OutSlot) → (output_place out ≡ output_place slot → ⊥) → output_is_open slot after ≡ output_is_open slot before
+KeepsOtherOutputs out before after = (slot : OutSlot) → (output_place out ≡ output_place slot → ⊥)
+    → output_is_open slot after ≡ output_is_open slot before
 
 -- no other input and no output was opened, closed or read from
 pub record TouchesOnly (slot : InSlot) (before after : Seen) : Type 0 where

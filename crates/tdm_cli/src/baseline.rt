@@ -82,7 +82,8 @@ fn forests(
 ) -> Result<Vec<Option<Forest>>, AllocError>
     requires { graph.now ≡ graph_of problem.now }
     ensures count { IfOk result (λ made. length made.items ≡ problem.now.fpgas) }
-    ensures made { IfOk result (λ made. HasForests graph.now problem.now (length problem.now.nets) made.items) }
+    ensures made { IfOk result (λ made. HasForests graph.now problem.now
+        (length problem.now.nets) made.items) }
 {
     let marks = sources(alloc, problem)?;
     let mut made = Vec::new(alloc);
@@ -124,7 +125,8 @@ impl Progress {
         requires hops { IsHopForest graph.now forest.now }
         requires root { forest.now.root ≡ source_of problem.now n }
         requires so_far { IsProgress problem.now n self.old.trees self.old.used self.old.missing.items }
-        ensures { OnOk result (IsProgress problem.now (n + 1) self.new.trees self.new.used self.new.missing.items) }
+        ensures { OnOk result (IsProgress problem.now
+            (n + 1) self.new.trees self.new.used self.new.missing.items) }
     {
         match base_tree(alloc, graph, forest, problem.net(n))? {
             None => self.missing.push(n)?,
@@ -137,8 +139,10 @@ impl Progress {
     fn keep(&mut self, tree: &[u32]) -> Result<(), AllocError>
         requires room { length self.old.trees < MAX_NETS }
         requires rising { IsStrictlyIncreasing tree.now }
-        ensures { OnOk result ((board : Board) (n : ℕ) → IsProgress board n self.old.trees self.old.used self.old.missing.items
-            → IsConnectable board (terminals_of board n) → IsBaseTree board (source_of board n) (terminals_of board n) tree.now
+        ensures { OnOk result ((board : Board) (n : ℕ)
+            → IsProgress board n self.old.trees self.old.used self.old.missing.items
+            → IsConnectable board (terminals_of board n)
+            → IsBaseTree board (source_of board n) (terminals_of board n) tree.now
             → IsProgress board (n + 1) self.new.trees self.new.used self.new.missing.items) }
     {
         if !self.missing.is_empty() {

@@ -9,7 +9,8 @@ ghost use Rattle.tdm_cli.specs.Words.{IsCommand, IsEval, IsRoute};
 /// the other output.
 fn verbs_take_names()
     ensures route { IsCommand (codes "route" ∷ codes "b" ∷ codes "s" ∷ codes "c" ∷ []) }
-    ensures over_input { IsRoute (codes "route" ∷ codes "b" ∷ codes "b" ∷ codes "c" ∷ []) (codes "b") (codes "b") (codes "c") }
+    ensures over_input { IsRoute (codes "route" ∷ codes "b" ∷ codes "b" ∷ codes "c" ∷ [])
+        (codes "b") (codes "b") (codes "c") }
     ensures eval { IsCommand (codes "eval" ∷ codes "b" ∷ codes "s" ∷ []) }
     ensures check { IsCommand (codes "check" ∷ codes "b" ∷ codes "c" ∷ []) }
     ensures no_words { ¬ IsCommand [] }
@@ -25,9 +26,12 @@ fn reports_are_lines()
     ensures words { usage_report ≡ codes "words refused\n" }
     ensures read_fault { read_fault_report 1 ≡ codes "read fault input 1\n" }
     ensures no_input { no_input_report 1 ≡ codes "no input 1\n" }
-    ensures board { board_refused_report (codes "MissingLine") 4 ≡ codes "board refused MissingLine line 4\n" }
-    ensures solution { solution_refused_report (codes "RepeatedWire") 3 ≡ codes "solution refused RepeatedWire line 3\n" }
-    ensures certificate { cert_refused_report (codes "BadKind") 1 ≡ codes "certificate refused BadKind line 1\n" }
+    ensures board { board_refused_report (codes "MissingLine") 4
+        ≡ codes "board refused MissingLine line 4\n" }
+    ensures solution { solution_refused_report (codes "RepeatedWire") 3
+        ≡ codes "solution refused RepeatedWire line 3\n" }
+    ensures certificate { cert_refused_report (codes "BadKind") 1
+        ≡ codes "certificate refused BadKind line 1\n" }
     ensures nets { unconnectable_report (0 ∷ 2 ∷ []) ≡ codes "unconnectable net 0\nunconnectable net 2\n" }
     ensures uses { use_limit_report ≡ codes "too many uses\n" }
     ensures legal { verdict_report (Legal 20) ≡ codes "value 20\n" }
@@ -35,5 +39,6 @@ fn reports_are_lines()
     ensures bad_ratio { verdict_report (BadRatio 0 0 3) ≡ codes "illegal net 0 wire 0 ratio 3\n" }
     ensures overfull { verdict_report (Overfull 0) ≡ codes "illegal wire 0 overfull\n" }
     ensures accepted { answer_report (Accepted 10) ≡ codes "bound 10\n" }
-    ensures steep { answer_report (Rejected (record { potential = 0; wire = 0 })) ≡ codes "steep potential 0 wire 0\n" }
+    ensures steep { answer_report (Rejected (record { potential = 0; wire = 0 }))
+        ≡ codes "steep potential 0 wire 0\n" }
 {}

@@ -70,7 +70,8 @@ fn route_nets<D: Desk>(
         → NetsEnds before (D.seen desk.new) problem.now solution.now cert.now result }
     ensures inputs { result ≡ Ok → KeepsInputs (D.seen desk.old) (D.seen desk.new) }
     ensures finished { result ≡ Ok → IsFinished Out0 (D.seen desk.new) × IsFinished Out1 (D.seen desk.new) }
-    ensures third { result ≡ Ok → output_is_open Out2 (D.seen desk.new) ≡ output_is_open Out2 (D.seen desk.old) }
+    ensures third { result ≡ Ok → output_is_open Out2 (D.seen desk.new)
+        ≡ output_is_open Out2 (D.seen desk.old) }
     ensures write_fault { result ≡ WriteFault → WritingFailed D.counts D.steady desk.old desk.new }
     ensures counted { CountsFaults D.counts D.steady desk.old desk.new }
 {

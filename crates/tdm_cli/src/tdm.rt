@@ -47,7 +47,8 @@ fn run_words<D: Desk>(alloc: Global, desk: &mut D, words: &[String]) -> Status
     ensures usage { result ≡ Usage → ¬ IsCommand (map string_bytes words.now) }
     ensures read_fault { result ≡ ReadFault →
         ReportsReadFault D.counts D.steady D.seen desk.old desk.new }
-    ensures route_read_fault { (board solution cert : Name) → IsRoute (map string_bytes words.now) board solution cert
+    ensures route_read_fault { (board solution cert : Name)
+        → IsRoute (map string_bytes words.now) board solution cert
         → result ≡ ReadFault → ReadingFailed D.counts D.steady In0 desk.old desk.new }
     ensures write_fault { result ≡ WriteFault → WritingFailed D.counts D.steady desk.old desk.new }
     ensures counted { CountsFaults D.counts D.steady desk.old desk.new }
@@ -84,7 +85,8 @@ pub fn tdm<D: Desk>(alloc: Global, desk: &mut D, words: &[String]) -> Status
     // reported of the input whose count rose; `route` has one input alone.
     ensures read_fault { result ≡ ReadFault →
         ReportsReadFault D.counts D.steady D.seen desk.old desk.new }
-    ensures route_read_fault { (board solution cert : Name) → IsRoute (map string_bytes words.now) board solution cert
+    ensures route_read_fault { (board solution cert : Name)
+        → IsRoute (map string_bytes words.now) board solution cert
         → result ≡ ReadFault → ReadingFailed D.counts D.steady In0 desk.old desk.new }
     ensures write_fault { result ≡ WriteFault → WritingFailed D.counts D.steady desk.old desk.new }
     ensures counted { CountsFaults D.counts D.steady desk.old desk.new }
@@ -92,18 +94,22 @@ pub fn tdm<D: Desk>(alloc: Global, desk: &mut D, words: &[String]) -> Status
 
     // Where the desk tells its files, they call for one status, which is the answer, unless a fault of the outside or
     // want of memory comes in.
-    ensures exact { (board solution cert : Name) (files : Files) → IsRoute (map string_bytes words.now) board solution cert
+    ensures exact { (board solution cert : Name) (files : Files)
+        → IsRoute (map string_bytes words.now) board solution cert
         → files_of (D.seen desk.old) ≡ Some files → (called : Status) → CallsFor files board called
         → (result ≡ called) ⊎ IsOutsideFault result }
-    ensures cause { (board solution cert : Name) (files : Files) → IsRoute (map string_bytes words.now) board solution cert
+    ensures cause { (board solution cert : Name) (files : Files)
+        → IsRoute (map string_bytes words.now) board solution cert
         → files_of (D.seen desk.old) ≡ Some files → IsOutsideFault result ⊎ CallsFor files board result }
 
     // An accepted board with connectable nets and a baseline within the limit is routed, unless memory is wanting.
-    ensures complete { (board solution cert : Name) (files : Files) → IsRoute (map string_bytes words.now) board solution cert
+    ensures complete { (board solution cert : Name) (files : Files)
+        → IsRoute (map string_bytes words.now) board solution cert
         → files_of (D.seen desk.old) ≡ Some files → CallsFor files board Ok
         → (ReadingFailed D.counts D.steady In0 desk.old desk.new → ⊥)
         → (WritingFailed D.counts D.steady desk.old desk.new → ⊥) → (result ≡ Ok) ⊎ (result ≡ OutOfMemory) }
-    ensures written { (board solution cert : Name) (files : Files) → IsRoute (map string_bytes words.now) board solution cert
+    ensures written { (board solution cert : Name) (files : Files)
+        → IsRoute (map string_bytes words.now) board solution cert
         → files_of (D.seen desk.old) ≡ Some files → result ≡ Ok
         → IsRouted files board solution cert (D.seen desk.old) (D.seen desk.new) }
     ensures settled { (board solution cert : Name) → IsRoute (map string_bytes words.now) board solution cert
@@ -111,22 +117,30 @@ pub fn tdm<D: Desk>(alloc: Global, desk: &mut D, words: &[String]) -> Status
 
     // The same of `eval`, which changes no file: Ok just where the solution is legal, and then its value is said, and
     // Illegal just where it is not, and then its first violation is said.
-    ensures eval_exact { (board solution : Name) (files : Files) → IsEval (map string_bytes words.now) board solution
-        → files_of (D.seen desk.old) ≡ Some files → (called : Status) → EvalCallsFor files board solution called
+    ensures eval_exact { (board solution : Name) (files : Files)
+        → IsEval (map string_bytes words.now) board solution
+        → files_of (D.seen desk.old) ≡ Some files → (called : Status)
+        → EvalCallsFor files board solution called
         → (result ≡ called) ⊎ IsOutsideFault result }
-    ensures eval_cause { (board solution : Name) (files : Files) → IsEval (map string_bytes words.now) board solution
-        → files_of (D.seen desk.old) ≡ Some files → IsOutsideFault result ⊎ EvalCallsFor files board solution result }
-    ensures eval_complete { (board solution : Name) (files : Files) → IsEval (map string_bytes words.now) board solution
+    ensures eval_cause { (board solution : Name) (files : Files)
+        → IsEval (map string_bytes words.now) board solution
+        → files_of (D.seen desk.old) ≡ Some files
+        → IsOutsideFault result ⊎ EvalCallsFor files board solution result }
+    ensures eval_complete { (board solution : Name) (files : Files)
+        → IsEval (map string_bytes words.now) board solution
         → files_of (D.seen desk.old) ≡ Some files → EvalCallsFor files board solution Ok
         → (ReadingFailed D.counts D.steady In0 desk.old desk.new → ⊥)
         → (ReadingFailed D.counts D.steady In1 desk.old desk.new → ⊥)
         → (WritingFailed D.counts D.steady desk.old desk.new → ⊥) → (result ≡ Ok) ⊎ (result ≡ OutOfMemory) }
-    ensures valued { (board solution : Name) (files : Files) → IsEval (map string_bytes words.now) board solution
+    ensures valued { (board solution : Name) (files : Files)
+        → IsEval (map string_bytes words.now) board solution
         → files_of (D.seen desk.old) ≡ Some files → result ≡ Ok
         → (value : ℕ) × IsJudged files board solution (D.seen desk.old) (D.seen desk.new) (Legal value) }
-    ensures violation { (board solution : Name) (files : Files) → IsEval (map string_bytes words.now) board solution
+    ensures violation { (board solution : Name) (files : Files)
+        → IsEval (map string_bytes words.now) board solution
         → files_of (D.seen desk.old) ≡ Some files → result ≡ Illegal
-        → (verdict : Verdict) × (SaysLegal verdict → ⊥) × IsJudged files board solution (D.seen desk.old) (D.seen desk.new) verdict }
+        → (verdict : Verdict) × (SaysLegal verdict → ⊥)
+        × IsJudged files board solution (D.seen desk.old) (D.seen desk.new) verdict }
     ensures eval_read { (board solution : Name) → IsEval (map string_bytes words.now) board solution
         → result ≡ Ok → HasReadBoth (D.seen desk.old) (D.seen desk.new) }
     ensures eval_kept { (board solution : Name) → IsEval (map string_bytes words.now) board solution
@@ -134,12 +148,16 @@ pub fn tdm<D: Desk>(alloc: Global, desk: &mut D, words: &[String]) -> Status
 
     // The same of `check`, which changes no file: Ok just where the certificate is valid, and then its bound is said,
     // and CertRejected just where it is not, and then its first steep pair is said.
-    ensures check_exact { (board cert : Name) (files : Files) → IsCheck (map string_bytes words.now) board cert
+    ensures check_exact { (board cert : Name) (files : Files)
+        → IsCheck (map string_bytes words.now) board cert
         → files_of (D.seen desk.old) ≡ Some files → (called : Status) → CheckCallsFor files board cert called
         → (result ≡ called) ⊎ IsOutsideFault result }
-    ensures check_cause { (board cert : Name) (files : Files) → IsCheck (map string_bytes words.now) board cert
-        → files_of (D.seen desk.old) ≡ Some files → IsOutsideFault result ⊎ CheckCallsFor files board cert result }
-    ensures check_complete { (board cert : Name) (files : Files) → IsCheck (map string_bytes words.now) board cert
+    ensures check_cause { (board cert : Name) (files : Files)
+        → IsCheck (map string_bytes words.now) board cert
+        → files_of (D.seen desk.old) ≡ Some files
+        → IsOutsideFault result ⊎ CheckCallsFor files board cert result }
+    ensures check_complete { (board cert : Name) (files : Files)
+        → IsCheck (map string_bytes words.now) board cert
         → files_of (D.seen desk.old) ≡ Some files → CheckCallsFor files board cert Ok
         → (ReadingFailed D.counts D.steady In0 desk.old desk.new → ⊥)
         → (ReadingFailed D.counts D.steady In1 desk.old desk.new → ⊥)

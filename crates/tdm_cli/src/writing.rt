@@ -85,7 +85,8 @@ fn write_files<D: Desk>(
         first.now (solution_text solution.now) second.now (cert_text cert.now)) }
     ensures inputs { KeepsInputs (D.seen desk.old) (D.seen desk.new) }
     ensures finished { OnOk result (IsFinished Out0 (D.seen desk.new) × IsFinished Out1 (D.seen desk.new)) }
-    ensures third { OnOk result (output_is_open Out2 (D.seen desk.new) ≡ output_is_open Out2 (D.seen desk.old)) }
+    ensures third { OnOk result (output_is_open Out2 (D.seen desk.new)
+        ≡ output_is_open Out2 (D.seen desk.old)) }
     ensures failed { IsErrOf result DeskFault.Failed →
         WritingFailed D.counts D.steady desk.old desk.new }
     ensures counted { CountsFaults D.counts D.steady desk.old desk.new }
@@ -112,7 +113,8 @@ pub fn deliver<D: Desk>(
         second.now (cert_text cert.now) report.now result }
     ensures inputs { KeepsInputs (D.seen desk.old) (D.seen desk.new) }
     ensures finished { result ≡ Ok → IsFinished Out0 (D.seen desk.new) × IsFinished Out1 (D.seen desk.new) }
-    ensures third { result ≡ Ok → output_is_open Out2 (D.seen desk.new) ≡ output_is_open Out2 (D.seen desk.old) }
+    ensures third { result ≡ Ok → output_is_open Out2 (D.seen desk.new)
+        ≡ output_is_open Out2 (D.seen desk.old) }
     ensures write_fault { result ≡ WriteFault → WritingFailed D.counts D.steady desk.old desk.new }
     ensures counted { CountsFaults D.counts D.steady desk.old desk.new }
 {

@@ -30,7 +30,9 @@ unfoldable pub opened : InSlot → Name → Seen → Seen
 opened slot name s = record {
   inputs = put (input_place slot) true s.inputs;
   outputs = s.outputs;
-  told = option_map (λ (t : Told). record t { rests = put (input_place slot) (bytes_under name t.files) t.rests }) s.told;
+  told = option_map (λ (t : Told). record t {
+    rests = put (input_place slot) (bytes_under name t.files) t.rests;
+  }) s.told;
 }
 
 -- an input is closed
@@ -44,7 +46,9 @@ input_closed slot s = record {
 -- an input has given so many more bytes
 unfoldable pub taken : InSlot → ℕ → Seen → Seen
 taken slot count s = record s {
-  told = option_map (λ (t : Told). record t { rests = put (input_place slot) (drop count (at (input_place slot) t.rests)) t.rests }) s.told;
+  told = option_map (λ (t : Told). record t {
+    rests = put (input_place slot) (drop count (at (input_place slot) t.rests)) t.rests;
+  }) s.told;
 }
 
 -- an output is open on the file of this name, which is empty
@@ -52,7 +56,10 @@ unfoldable pub created : OutSlot → Name → Seen → Seen
 created slot name s = record {
   inputs = s.inputs;
   outputs = put (output_place slot) true s.outputs;
-  told = option_map (λ (t : Told). record t { files = with_file name [] t.files; names = put (output_place slot) (Some name) t.names }) s.told;
+  told = option_map (λ (t : Told). record t {
+    files = with_file name [] t.files;
+    names = put (output_place slot) (Some name) t.names;
+  }) s.told;
 }
 
 -- an output is closed
@@ -71,7 +78,9 @@ with_output (Some name) more files = with_more name more files
 -- these bytes are added to the file of an open output
 unfoldable pub written : OutSlot → Bytes → Seen → Seen
 written slot bytes s = record s {
-  told = option_map (λ (t : Told). record t { files = with_output (at (output_place slot) t.names) bytes t.files }) s.told;
+  told = option_map (λ (t : Told). record t {
+    files = with_output (at (output_place slot) t.names) bytes t.files;
+  }) s.told;
 }
 
 -- these bytes are said

@@ -105,7 +105,8 @@ impl MemoryDesk {
     /// Lets the input at a place give its next bytes to the front of `buf`, and answers how many.
     fn give(&mut self, place: Place, buf: &mut [u8]) -> usize
         requires { IsSome (at place self.old.inputs) }
-        ensures count { ForSome (at place self.old.inputs) (λ rest. result ≡ min (length buf.new) (length rest)) }
+        ensures count { ForSome (at place self.old.inputs) (λ rest. result
+            ≡ min (length buf.new) (length rest)) }
         ensures bytes { ForSome (at place self.old.inputs) (λ rest. take result buf.new ≡ take result rest) }
         ensures rest { ForSome (at place self.old.inputs) (λ rest.
             self.new ≡ record self.old { inputs = put place (Some (drop result rest)) self.old.inputs }) }

@@ -14,8 +14,13 @@ fn tokens_stand_between_blanks()
 
 /// A line keeps the number of its piece, and a piece without a token is none.
 fn lines_have_a_token_each()
-    ensures mixed { lines 4294967295 (codes "1 02\r\n \nx") ≡ record { number = 1; fault = None; numbers = 1 ∷ 2 ∷ [] } ∷ record { number = 3; fault = Some BadNumber; numbers = [] } ∷ [] }
-    ensures above { lines 5 (codes "5\n6\n6 -1\n") ≡ record { number = 1; fault = None; numbers = 5 ∷ [] } ∷ record { number = 2; fault = Some NumberTooLarge; numbers = [] } ∷ record { number = 3; fault = Some BadNumber; numbers = [] } ∷ [] }
+    ensures mixed { lines 4294967295 (codes "1 02\r\n \nx")
+        ≡ record { number = 1; fault = None; numbers = 1 ∷ 2 ∷ [] }
+        ∷ record { number = 3; fault = Some BadNumber; numbers = [] } ∷ [] }
+    ensures above { lines 5 (codes "5\n6\n6 -1\n")
+        ≡ record { number = 1; fault = None; numbers = 5 ∷ [] }
+        ∷ record { number = 2; fault = Some NumberTooLarge; numbers = [] }
+        ∷ record { number = 3; fault = Some BadNumber; numbers = [] } ∷ [] }
     ensures none { lines 5 (codes "") ≡ [] }
 {}
 

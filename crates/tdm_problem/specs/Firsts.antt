@@ -7,4 +7,5 @@ with_met kept x = if list_any (λ y. y == x) kept then kept else kept ++ x ∷ [
 
 -- each kept number has its place among the kept ones written down
 abbrev pub IsIndexed : List ℕ → List ℕ → Type 0
-IsIndexed places kept = (k : ℕ) → k < length kept → (slice_index places (slice_index kept k) ≡ k) × (slice_index kept k < length places)
+IsIndexed places kept = (k : ℕ) → k < length kept
+    → (slice_index places (slice_index kept k) ≡ k) × (slice_index kept k < length places)

@@ -22,14 +22,17 @@ pub record IsPriced (item : Priced) : Type 0 where
 
 -- where the ratios fit, the prices times the ratios sum to at least 2 · l · (the sum of the roots) - lanes · l², at any l
 abbrev pub TangentLaw : Type 0
-TangentLaw = (items : List Priced) (lanes l : ℕ) → All IsPriced items → FitsLanes (map (λ item. item.ratio) items) lanes →
-    2 * l * sum_by (λ item. item.root) items ≤ sum_by (λ item. item.price * item.ratio) items + lanes * (l * l)
+TangentLaw = (items : List Priced) (lanes l : ℕ) → All IsPriced items
+    → FitsLanes (map (λ item. item.ratio) items) lanes
+    → 2 * l * sum_by (λ item. item.root) items
+    ≤ sum_by (λ item. item.price * item.ratio) items + lanes * (l * l)
 
 -- the weighted sum of the group sums is, over the wires and the nets on each, the sum of the net's weight times its ratio
 abbrev pub WireSumLaw : Type 0
 WireSumLaw = (board : Board) (routing : Routing) (weights : List ℕ) → IsBoard board → IsFor board routing →
     weighted_sums routing board.groups weights
-    ≡ sum_below (length board.wires) (λ e. sum_by (λ x. net_weight board.groups weights x.net * x.ratio) (users_on routing e))
+    ≡ sum_below (length board.wires)
+    (λ e. sum_by (λ x. net_weight board.groups weights x.net * x.ratio) (users_on routing e))
 
 -- the weighted sum of the group sums is at most the sum of the weights times the value
 abbrev pub ValueLaw : Type 0
@@ -38,7 +41,8 @@ ValueLaw = (board : Board) (routing : Routing) (weights : List ℕ) →
 
 -- the value of a legal routing is even
 abbrev pub EvenLaw : Type 0
-EvenLaw = (board : Board) (routing : Routing) → IsLegal board routing → (half : ℕ) × (value_of board routing ≡ 2 * half)
+EvenLaw = (board : Board) (routing : Routing) → IsLegal board routing
+    → (half : ℕ) × (value_of board routing ≡ 2 * half)
 
 -- the root is the greatest number whose square is at most n, and no other number is
 abbrev pub RootLaw : Type 0
@@ -46,4 +50,5 @@ RootLaw = (n r : ℕ) → IsRoot n r ↔ (r ≡ root_of n)
 
 -- the ratios of the users of a wire are the ratios on it
 abbrev pub UsersLaw : Type 0
-UsersLaw = (routing : Routing) (e : ℕ) → ratios_on routing e ≡ map (λ (x : User). x.ratio) (users_on routing e)
+UsersLaw = (routing : Routing) (e : ℕ)
+    → ratios_on routing e ≡ map (λ (x : User). x.ratio) (users_on routing e)

@@ -27,6 +27,7 @@ IsEvenRatio ratio = (half : ℕ) × (0 < half) × (ratio ≡ 2 * half)
 -- the wires of each net join its FPGAs, each ratio is positive and even, and on each wire the ratios fit
 pub record IsLegal (board : Board) (routing : Routing) : Type 0 where
   pub is_for : IsFor board routing
-  pub joined : (n : ℕ) → n < length board.nets → Joins board (Contains (wires_of (uses_of routing n))) (terminals_of board n)
+  pub joined : (n : ℕ) → n < length board.nets
+      → Joins board (Contains (wires_of (uses_of routing n))) (terminals_of board n)
   pub even : All (λ uses. All IsEvenRatio (ratios_of uses)) routing
   pub fits : (e : ℕ) → e < length board.wires → FitsLanes (ratios_on routing e) (lanes_of board e)

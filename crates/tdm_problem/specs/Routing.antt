@@ -40,4 +40,5 @@ pub record HasRisingWires (routing : Routing) : Type 0 where
 abbrev pub with_ratio : Routing → ℕ → ℕ → ℕ → Routing
 with_ratio routing n place ratio =
     let uses : List WireUse = uses_of routing n in
-    slice_set routing n (slice_set uses place (record { wire = slice_index (wires_of uses) place; ratio = ratio }))
+    let use_there : WireUse = record { wire = slice_index (wires_of uses) place; ratio = ratio } in
+    slice_set routing n (slice_set uses place use_there)

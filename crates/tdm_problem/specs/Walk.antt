@@ -15,7 +15,8 @@ IsWalk board wires a (e ∷ es) b = wires e × ((x : ℕ) × Links board e a x �
 
 -- any two of the FPGAs have a walk in the set of wires
 abbrev pub Joins : Board → (ℕ → Type 0) → List ℕ → Type 0
-Joins board wires fpgas = (a b : ℕ) → Contains fpgas a → Contains fpgas b → (es : List ℕ) × IsWalk board wires a es b
+Joins board wires fpgas = (a b : ℕ) → Contains fpgas a → Contains fpgas b
+    → (es : List ℕ) × IsWalk board wires a es b
 
 -- the set of all wires of the board
 abbrev pub AnyWire : Board → ℕ → Type 0

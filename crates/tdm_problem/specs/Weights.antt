@@ -7,7 +7,8 @@ use Rattle.tdm_problem.specs.Value.{group_sum}
 abbrev pub net_weight : (groups : List (List ℕ)) → (weights : List ℕ) → (n : ℕ) → ℕ
 net_weight [] weights n = 0
 net_weight (group ∷ groups) [] n = 0
-net_weight (group ∷ groups) (weight ∷ weights) n = (if list_any (λ m. m == n) group then weight else 0) + net_weight groups weights n
+net_weight (group ∷ groups) (weight ∷ weights) n =
+    (if list_any (λ m. m == n) group then weight else 0) + net_weight groups weights n
 
 -- the sum over the groups of the weight times a number of the group
 abbrev pub weighted_by : (List ℕ → ℕ) → (groups : List (List ℕ)) → (weights : List ℕ) → ℕ

@@ -29,7 +29,8 @@ fn a_number_counts_once_in_its_first_place()
 /// The ratios on a wire are those of all nets; a new ratio stands in its place alone.
 fn ratios_stand_by_net_and_by_wire()
     ensures on_wire { ratios_on ((use_at 0 2 ∷ use_at 1 4 ∷ []) ∷ (use_at 1 6 ∷ []) ∷ []) 1 ≡ 4 ∷ 6 ∷ [] }
-    ensures users { users_on ((use_at 0 2 ∷ use_at 1 4 ∷ []) ∷ (use_at 1 6 ∷ []) ∷ []) 1 ≡ record { net = 0; ratio = 4 } ∷ record { net = 1; ratio = 6 } ∷ [] }
+    ensures users { users_on ((use_at 0 2 ∷ use_at 1 4 ∷ []) ∷ (use_at 1 6 ∷ []) ∷ []) 1
+        ≡ record { net = 0; ratio = 4 } ∷ record { net = 1; ratio = 6 } ∷ [] }
     ensures replaced { with_ratio (on_wire_0 (2 ∷ 4 ∷ [])) 1 0 6 ≡ on_wire_0 (2 ∷ 6 ∷ []) }
 {}
 
@@ -38,7 +39,8 @@ fn a_value_is_the_largest_sum_of_a_group()
     ensures net { net_sum ((use_at 0 2 ∷ use_at 1 4 ∷ []) ∷ []) 0 ≡ 6 }
     ensures group { group_sum (on_wire_0 (4 ∷ 2 ∷ 6 ∷ [])) (2 ∷ 0 ∷ []) ≡ 10 }
     ensures one_group { value_of shared (on_wire_0 (4 ∷ 4 ∷ 4 ∷ [])) ≡ 12 }
-    ensures two_groups { value_of (record shared { groups = (0 ∷ []) ∷ (2 ∷ 1 ∷ []) ∷ [] }) (on_wire_0 (6 ∷ 4 ∷ 4 ∷ [])) ≡ 8 }
+    ensures two_groups { value_of (record shared { groups = (0 ∷ []) ∷ (2 ∷ 1 ∷ []) ∷ [] })
+        (on_wire_0 (6 ∷ 4 ∷ 4 ∷ [])) ≡ 8 }
     ensures cycle { value_of doubled ((use_at 0 2 ∷ use_at 1 2 ∷ []) ∷ []) ≡ 4 }
     ensures no_group { value_of split ([] ∷ [] ∷ [] ∷ []) ≡ 0 }
 {}
@@ -97,7 +99,8 @@ fn weights_add_up()
     ensures held_once { net_weight ((0 ∷ 1 ∷ 2 ∷ []) ∷ (1 ∷ []) ∷ []) (5 ∷ 7 ∷ []) 0 ≡ 5 }
     ensures held_twice { net_weight ((0 ∷ 1 ∷ 2 ∷ []) ∷ (1 ∷ []) ∷ []) (5 ∷ 7 ∷ []) 1 ≡ 12 }
     ensures not_held { net_weight ((0 ∷ 1 ∷ 2 ∷ []) ∷ (1 ∷ []) ∷ []) (5 ∷ 7 ∷ []) 3 ≡ 0 }
-    ensures sums { weighted_sums (on_wire_0 (2 ∷ 4 ∷ 6 ∷ [])) ((0 ∷ 1 ∷ 2 ∷ []) ∷ (1 ∷ []) ∷ []) (5 ∷ 7 ∷ []) ≡ 88 }
+    ensures sums { weighted_sums (on_wire_0 (2 ∷ 4 ∷ 6 ∷ [])) ((0 ∷ 1 ∷ 2 ∷ []) ∷ (1 ∷ []) ∷ [])
+        (5 ∷ 7 ∷ []) ≡ 88 }
     ensures below { sum_below 4 (λ n. n * n) ≡ 14 }
 {}
 

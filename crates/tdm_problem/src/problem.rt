@@ -190,7 +190,10 @@ impl ProblemDraft {
         requires room_listed { sum_by length self.old.nets + length fpgas.now ≤ MAX_LISTED_FPGAS }
         requires some { 0 < length fpgas.now }
         requires there { All (λ f. f < self.old.fpgas) fpgas.now }
-        ensures ok { OnOk result (self.new ≡ record self.old { nets = self.old.nets ++ without_repeats fpgas.now ∷ [] }) }
+        ensures ok { OnOk result (self.new ≡ record self.old {
+          nets = self.old.nets
+              ++ without_repeats fpgas.now ∷ [];
+        }) }
         ensures err { OnErr result (self.new ≡ self.old) }
         ensures board { IsBoard self.new }
     {
@@ -206,7 +209,10 @@ impl ProblemDraft {
         requires room_listed { sum_by length self.old.groups + length nets.now ≤ MAX_LISTED_NETS }
         requires some { 0 < length nets.now }
         requires there { All (λ n. n < length self.old.nets) nets.now }
-        ensures ok { OnOk result (self.new ≡ record self.old { groups = self.old.groups ++ without_repeats nets.now ∷ [] }) }
+        ensures ok { OnOk result (self.new ≡ record self.old {
+          groups = self.old.groups
+              ++ without_repeats nets.now ∷ [];
+        }) }
         ensures err { OnErr result (self.new ≡ self.old) }
         ensures board { IsBoard self.new }
     {
