@@ -19,6 +19,13 @@ pub(crate) struct Term {
     pub(crate) remainder: u32,
 }
 
+/// What a division gives.
+#[derive(Clone, Copy)]
+struct Quotient {
+    digit: u64,
+    remainder: u32,
+}
+
 /// The most items that a list of terms may stand for.
 pub(crate) const MAX_ITEMS: u32 = 1 << 20;
 
@@ -65,21 +72,24 @@ fn take_digits<L: Ledger>(terms: &mut [Term], steps: &mut Steps<L>) -> u64
 {
     let mut sum = 0;
     for term in terms.iter_mut() {
-        let (digit, remainder) = divide(term.remainder as u64 * BASE, term.ratio, steps);
-        term.remainder = remainder;
-        sum += term.count as u64 * digit;
+        let taken = divide(term.remainder as u64 * BASE, term.ratio, steps);
+        term.remainder = taken.remainder;
+        sum += term.count as u64 * taken.digit;
     }
     sum
 }
 
 /// The one division, which is a step.
-fn divide<L: Ledger>(dividend: u64, divisor: u32, steps: &mut Steps<L>) -> (u64, u32)
+fn divide<L: Ledger>(dividend: u64, divisor: u32, steps: &mut Steps<L>) -> Quotient
     requires { 0 < divisor }
-    ensures quotient { result.0 ≡ dividend / divisor }
-    ensures remainder { result.1 ≡ dividend % divisor }
+    ensures digit { result.digit ≡ dividend / divisor }
+    ensures remainder { result.remainder ≡ dividend % divisor }
     ensures step { steps.new ≡ steps.old + 1 }
 {
     steps.tick();
     let divisor = divisor as u64;
-    (dividend / divisor, (dividend % divisor) as u32)
+    Quotient {
+        digit: dividend / divisor,
+        remainder: (dividend % divisor) as u32,
+    }
 }
