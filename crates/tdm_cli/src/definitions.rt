@@ -1,7 +1,9 @@
-//! The words that are commands, and the reports, computed on a few of them.
+//! The words that are commands, the reports and the codes, computed.
 ghost use Rattle.std.specs.Prelude.{◌≡◌, [], ◌∷◌, codes};
 ghost use Rattle.cert_checker.specs.declared.answer.CheckAnswer.TheVariants.{Accepted, Rejected};
 ghost use Rattle.solution_eval.specs.declared.judgement.Verdict.TheVariants.{BadRatio, Legal, NotJoined, Overfull};
+ghost use Rattle.tdm_cli.specs.Code.{code_of};
+ghost use Rattle.tdm_cli.specs.declared.status.Status.TheVariants.{BoardRefused, CertRefused, CertRejected, Illegal, NoInput, Ok, OutOfMemory, ReadFault, SolutionRefused, Unconnectable, Usage, UseLimit, WriteFault};
 ghost use Rattle.tdm_cli.specs.Reports.{answer_report, board_refused_report, cert_refused_report, no_input_report, read_fault_report, route_report, solution_refused_report, unconnectable_report, usage_report, use_limit_report, verdict_report};
 ghost use Rattle.tdm_cli.specs.Words.{IsCommand, IsEval, IsRoute};
 
@@ -41,4 +43,21 @@ fn reports_are_lines()
     ensures accepted { answer_report (Accepted 10) ≡ codes "bound 10\n" }
     ensures steep { answer_report (Rejected (record { potential = 0; wire = 0 }))
         ≡ codes "steep potential 0 wire 0\n" }
+{}
+
+/// Each status ends the process with a number of its own.
+fn statuses_have_codes()
+    ensures ok { code_of Ok ≡ 0 }
+    ensures board_refused { code_of BoardRefused ≡ 1 }
+    ensures usage { code_of Usage ≡ 2 }
+    ensures unconnectable { code_of Unconnectable ≡ 3 }
+    ensures read_fault { code_of ReadFault ≡ 4 }
+    ensures write_fault { code_of WriteFault ≡ 5 }
+    ensures out_of_memory { code_of OutOfMemory ≡ 6 }
+    ensures solution_refused { code_of SolutionRefused ≡ 7 }
+    ensures illegal { code_of Illegal ≡ 8 }
+    ensures cert_refused { code_of CertRefused ≡ 9 }
+    ensures cert_rejected { code_of CertRejected ≡ 10 }
+    ensures use_limit { code_of UseLimit ≡ 11 }
+    ensures no_input { code_of NoInput ≡ 14 }
 {}

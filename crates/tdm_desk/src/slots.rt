@@ -40,7 +40,7 @@ pub struct Slots<T> {
 
 impl InSlot {
     /// The place of this input among the inputs.
-    pub fn place(self) -> Place
+    pub(crate) fn place(self) -> Place
         ensures { result ≡ input_place self }
     {
         match self {
@@ -53,7 +53,7 @@ impl InSlot {
 
 impl OutSlot {
     /// The place of this output among the outputs.
-    pub fn place(self) -> Place
+    pub(crate) fn place(self) -> Place
         ensures { result ≡ output_place self }
     {
         match self {
