@@ -1,6 +1,6 @@
 use Rattle.std.specs.Prelude.{ℕ, ◌≤◌, List, [], length, All}
 use Rattle.tdm_problem.specs.declared.wire.Wire.{Wire}
-use Rattle.tdm_problem.specs.declared.limits.TheConstants.{MAX_FPGAS, MAX_WIRES}
+use Rattle.tdm_problem.specs.Limits.{most_fpgas, most_wires}
 use Rattle.tdm_problem.specs.Board.{Board, IsWireOf}
 
 -- how many FPGAs a board has, and its wires
@@ -10,8 +10,8 @@ pub record Graph : Type 0 where
 
 -- each wire joins two different FPGAs of the graph, and there are not too many of either
 pub record IsGraph (graph : Graph) : Type 0 where
-  pub fpga_limit : graph.fpgas ≤ MAX_FPGAS
-  pub wire_limit : length graph.wires ≤ MAX_WIRES
+  pub fpga_limit : graph.fpgas ≤ most_fpgas
+  pub wire_limit : length graph.wires ≤ most_wires
   pub wires : All (IsWireOf graph.fpgas) graph.wires
 
 -- the FPGAs and wires of a board

@@ -6,7 +6,7 @@ use Rattle.std.proofs.lemmas.List.{get_or-map, length-map, get_or_default}
 use Rattle.std.proofs.lemmas.List.Elements.{All-map}
 use Rattle.tdm_problem.specs.Board.{Board}
 use Rattle.tdm_problem.specs.Distance.{IsHopCount}
-use Rattle.tdm_problem.specs.declared.limits.TheConstants.{MAX_FPGAS}
+use Rattle.tdm_problem.specs.Limits.{most_fpgas}
 use Rattle.board_graph.specs.Graph.{Graph, IsGraph, graph_of, board_of}
 use Rattle.shortest_forest.specs.Reach.{Reach, HasNoWalk, HasHops, IsHopForest, distance_of}
 use Rattle.shortest_forest.proofs.HopLaws.{hops_at}
@@ -44,10 +44,10 @@ all_bounded reach most bound =
 
 module _ (graph : Graph) (reach : Reach) (is : IsGraph graph) (forest : IsHopForest graph reach) where
   -- no distance is more than the number of FPGAs
-  pub all_small : All (λ v. v ≤ MAX_FPGAS) (map or_zero reach.distances)
+  pub all_small : All (λ v. v ≤ most_fpgas) (map or_zero reach.distances)
   all_small =
       let has = forest.on_board (board_of graph) refl in
-      all_bounded reach MAX_FPGAS (λ f d at. omega (arith, (has.chains f d at).3, is.fpga_limit))
+      all_bounded reach most_fpgas (λ f d at. omega (arith, (has.chains f d at).3, is.fpga_limit))
 
   -- nor than the number of wires
   pub all_short : All (λ v. v ≤ length graph.wires) (map or_zero reach.distances)

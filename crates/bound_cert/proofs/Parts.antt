@@ -5,7 +5,7 @@ use Rattle.std.proofs.lemmas.List.{get_or_default}
 use Rattle.std.proofs.lemmas.List.Sums.{sum_by-le}
 use Rattle.std.proofs.lemmas.Nat.{mul-le}
 use Rattle.tdm_problem.specs.Board.{Board, IsBoard}
-use Rattle.tdm_problem.specs.declared.limits.TheConstants.{MAX_FPGAS}
+use Rattle.tdm_problem.specs.Limits.{most_fpgas}
 use Rattle.bound_cert.specs.Limits.{most_potential_value, most_potential_values}
 use Rattle.bound_cert.specs.Certificate.{IsPotential}
 use Rattle.bound_cert.specs.Makers.{AreRootPotentials, ChooseSources}
@@ -33,7 +33,7 @@ module _ (board : Board) (wire_length : ℕ → ℕ) (potentials : List (List �
     }
 
     -- all potentials have together no more values than they may
-    pub few_values : length potentials ≤ MAX_FPGAS → sum_by length potentials ≤ most_potential_values
+    pub few_values : length potentials ≤ most_fpgas → sum_by length potentials ≤ most_potential_values
     few_values few =
         let total = sum_by-le length board.fpgas potentials (λ p d below. omega (arith, potentials_long p d below)) in
-        omega (arith, total, mul-le (length potentials) board.fpgas MAX_FPGAS MAX_FPGAS few is.fpga_limit)
+        omega (arith, total, mul-le (length potentials) board.fpgas most_fpgas most_fpgas few is.fpga_limit)

@@ -2,7 +2,7 @@
 use Rattle.std.proofs.Common.{◌≡◌, ℕ, ◌+◌, ◌*◌, ◌^◌, ◌<◌, ◌≤◌, List, length, refl, ap, arith, add-one}
 use Rattle.std.specs.Prelude.{All, slice_index}
 use Rattle.std.proofs.lemmas.Nat.{mul-le}
-use Rattle.tdm_problem.specs.declared.limits.TheConstants.{MAX_NETS, MAX_FPGAS}
+use Rattle.tdm_problem.specs.Limits.{most_nets, most_fpgas}
 use Rattle.tdm_problem.specs.Sums.{sum_below}
 use Rattle.tdm_problem.specs.Roots.{root_of}
 use Rattle.bound_cert.specs.Limits.{uniform_weight}
@@ -27,11 +27,11 @@ rooted_more holders depths n total next there so_far is small = record {
 }
 
 -- the sums fit their type
-pub rooted_fits : (holders depths : List ℕ) (n total next : ℕ) → n < length depths → length depths ≤ MAX_NETS → All (λ h. h ≤ MAX_FPGAS) depths → IsRootedBelow holders depths n total → next ≤ uniform_weight * slice_index depths n → total + next < 2 ^ 64
+pub rooted_fits : (holders depths : List ℕ) (n total next : ℕ) → n < length depths → length depths ≤ most_nets → All (λ h. h ≤ most_fpgas) depths → IsRootedBelow holders depths n total → next ≤ uniform_weight * slice_index depths n → total + next < 2 ^ 64
 rooted_fits holders depths n total next there few small so_far next_small =
-    omega (arith, so_far.within MAX_FPGAS small, small n 0 there)
+    omega (arith, so_far.within most_fpgas small, small n 0 there)
 
 -- all of them together
-pub rooted_within : (holders depths : List ℕ) (n total most : ℕ) → n ≤ MAX_NETS → IsRootedBelow holders depths n total → All (λ h. h ≤ most) depths → total ≤ 2 ^ 40 * most
+pub rooted_within : (holders depths : List ℕ) (n total most : ℕ) → n ≤ most_nets → IsRootedBelow holders depths n total → All (λ h. h ≤ most) depths → total ≤ 2 ^ 40 * most
 rooted_within holders depths n total most few all small =
-    omega (arith, all.within most small, mul-le n (uniform_weight * most) MAX_NETS (uniform_weight * most) few (omega arith))
+    omega (arith, all.within most small, mul-le n (uniform_weight * most) most_nets (uniform_weight * most) few (omega arith))

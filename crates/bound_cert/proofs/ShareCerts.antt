@@ -10,7 +10,7 @@ use Rattle.tdm_problem.specs.Roots.{root_of}
 use Rattle.tdm_problem.specs.Weights.{net_weight}
 use Rattle.tdm_problem.proofs.SumsBelow.{sum_below-agree, sum_below-times}
 use Rattle.bound_cert.specs.Limits.{most_length, most_potential_values, uniform_weight}
-use Rattle.tdm_problem.specs.declared.limits.TheConstants.{MAX_FPGAS}
+use Rattle.tdm_problem.specs.Limits.{most_fpgas}
 use Rattle.bound_cert.specs.declared.certificate.CertKind.{CertKind}
 use Rattle.bound_cert.specs.declared.certificate.CertKind.TheVariants.{Share}
 use Rattle.bound_cert.specs.Certificate.{Cert, IsCertFor, IsPotential, length_of}
@@ -84,8 +84,8 @@ pub record AreShareParts (board : Board) (unit : ℕ) (depths weights lengths ch
   pub weights_are : weights ≡ replicate (length board.groups) uniform_weight
   pub lengths_are : lengths ≡ replicate (length board.wires) unit
   pub from_hops : AreRootPotentials board (λ _. 1) hops
-  pub few : length hops ≤ MAX_FPGAS
-  pub small : All (All (λ v. v ≤ MAX_FPGAS)) hops
+  pub few : length hops ≤ most_fpgas
+  pub small : All (All (λ v. v ≤ most_fpgas)) hops
   pub scaled : AreScaled unit hops potentials
   pub chosen : ChooseSources board choices
   pub are_depths : AreDepths board depths
@@ -110,8 +110,8 @@ module _ (board : Board) (unit : ℕ) (depths weights lengths choices : List ℕ
 
   pub share_potentials_within : All IsPotential potentials
   share_potentials_within =
-      potentials_within board (λ _. unit) potentials (are_scaled (λ _. unit) (λ e there. refl)) parts.is_board (unit * MAX_FPGAS)
-      (omega (arith, parts.unit_short)) (AreScaled-small unit MAX_FPGAS hops potentials parts.scaled parts.small)
+      potentials_within board (λ _. unit) potentials (are_scaled (λ _. unit) (λ e there. refl)) parts.is_board (unit * most_fpgas)
+      (omega (arith, parts.unit_short)) (AreScaled-small unit most_fpgas hops potentials parts.scaled parts.small)
 
   pub share_choices_there : All (λ c. c ≤ length potentials) choices
   share_choices_there = choices_there board (λ _. unit) potentials (are_scaled (λ _. unit) (λ e there. refl)) choices parts.chosen

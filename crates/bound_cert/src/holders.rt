@@ -2,7 +2,7 @@
 ghost use Rattle.std.specs.Prelude.{◌≡◌, ◌≢◌, ◌+◌, ◌<◌, ◌≤◌, ◌==◌, ℕ, length, slice_index, All, AllPairs, IfOk, OnOk, if◌then◌else◌};
 ghost use Rattle.std.specs.List.{list_any};
 ghost use Rattle.tdm_problem.specs.Board.{IsBoard};
-ghost use Rattle.tdm_problem.specs.declared.limits.TheConstants.{MAX_GROUPS};
+ghost use Rattle.tdm_problem.specs.Limits.{most_groups};
 ghost use Rattle.bound_cert.specs.Floors.{holders_of};
 
 use std::alloc::{AllocError, Global};
@@ -14,7 +14,7 @@ pub(crate) fn holders(alloc: Global, problem: &Problem) -> Result<Vec<u32>, Allo
     ensures each { IfOk result (λ counts. (n : ℕ) → n < length problem.now.nets
         → slice_index counts.items n ≡ holders_of problem.now n) }
     ensures board { OnOk result (IsBoard problem.now) }
-    ensures few { IfOk result (λ counts. All (λ count. count ≤ MAX_GROUPS) counts.items) }
+    ensures few { IfOk result (λ counts. All (λ count. count ≤ most_groups) counts.items) }
 {
     let mut counts = vec![in alloc; 0; problem.nets() as usize]?;
     for g in 0..problem.groups() {
@@ -27,7 +27,7 @@ pub(crate) fn holders(alloc: Global, problem: &Problem) -> Result<Vec<u32>, Allo
 fn count_members(group: &[u32], counts: &mut [u32])
     requires there { All (λ n. n < length counts.old) group.now }
     requires distinct { AllPairs (λ x y. x ≢ y) group.now }
-    requires few { All (λ count. count < MAX_GROUPS) counts.old }
+    requires few { All (λ count. count < most_groups) counts.old }
     ensures { (n : ℕ) → n < length counts.old → slice_index counts.new n
         ≡ slice_index counts.old n + (if list_any (λ m. m == n) group.now then 1 else 0) }
 {

@@ -1,6 +1,6 @@
 //! The certificate by hops for the group that reaches farthest.
 ghost use Rattle.std.specs.Prelude.{◌≡◌, ◌<◌, ◌≤◌, ◌^◌, ℕ, [], length, sum_by, slice_set, replicate, All, IfOk, MatchOption};
-ghost use Rattle.tdm_problem.specs.declared.limits.TheConstants.{MAX_FPGAS};
+ghost use Rattle.tdm_problem.specs.Limits.{most_fpgas};
 ghost use Rattle.board_graph.specs.Graph.{graph_of};
 ghost use Rattle.bound_cert.specs.Limits.{most_potential_values};
 ghost use Rattle.bound_cert.specs.Certificate.{IsCert, IsCertFor};
@@ -59,7 +59,7 @@ fn weights_of_deepest(
     depths: &[u64],
 ) -> Result<Vec<u64>, AllocError>
     requires count { length depths.now ≡ length problem.now.nets }
-    requires small { All (λ h. h ≤ MAX_FPGAS) depths.now }
+    requires small { All (λ h. h ≤ most_fpgas) depths.now }
     ensures none { IfOk result (λ weights. length problem.now.groups ≡ 0 → weights.items ≡ []) }
     ensures some { IfOk result (λ weights. 0 < length problem.now.groups → (g : ℕ)
         × IsFirstDeepest problem.now depths.now g
@@ -75,7 +75,7 @@ fn weights_of_deepest(
 /// The first of the groups whose nets have together the greatest depth, None without groups.
 fn deepest_group(problem: &Problem, depths: &[u64]) -> Option<u32>
     requires count { length depths.now ≡ length problem.now.nets }
-    requires small { All (λ h. h ≤ MAX_FPGAS) depths.now }
+    requires small { All (λ h. h ≤ most_fpgas) depths.now }
     ensures { MatchOption result (length problem.now.groups ≡ 0) (IsFirstDeepest problem.now depths.now) }
 {
     if problem.groups() == 0 {
@@ -96,7 +96,7 @@ fn deepest_group(problem: &Problem, depths: &[u64]) -> Option<u32>
 /// The depths of a group's nets together.
 fn depth_of_group(depths: &[u64], group: &[u32]) -> u64
     requires there { All (λ n. n < length depths.now) group.now }
-    requires small { All (λ h. h ≤ MAX_FPGAS) depths.now }
+    requires small { All (λ h. h ≤ most_fpgas) depths.now }
     requires few { length group.now ≤ 2 ^ 24 }
     ensures { result ≡ group_depth depths.now group.now }
 {

@@ -3,7 +3,7 @@ ghost use Rattle.std.specs.Prelude.{◌≡◌, ◌<◌, ◌≤◌, ℕ, List, le
 ghost use Rattle.std.specs.Option.{unwrap_or};
 ghost use Rattle.tdm_problem.specs.Board.{Board};
 ghost use Rattle.tdm_problem.specs.Value.{largest};
-ghost use Rattle.tdm_problem.specs.declared.limits.TheConstants.{MAX_FPGAS};
+ghost use Rattle.tdm_problem.specs.Limits.{most_fpgas};
 ghost use Rattle.board_graph.specs.Graph.{IsGraph, graph_of};
 ghost use Rattle.bound_cert.specs.Certificate.{value_at};
 ghost use Rattle.tdm_problem.specs.Legal.{AllConnectable};
@@ -39,9 +39,9 @@ impl HopReach {
             AreRootPotentials problem.now (λ _. 1) reach.potentials.items) }
         ensures choices { IfOk result (λ reach. ChooseSources problem.now reach.choices.items) }
         ensures depths { IfOk result (λ reach. AreDepths problem.now reach.depths.items) }
-        ensures few { IfOk result (λ reach. length reach.potentials.items ≤ MAX_FPGAS) }
-        ensures small { IfOk result (λ reach. All (All (λ v. v ≤ MAX_FPGAS)) reach.potentials.items) }
-        ensures small_depths { IfOk result (λ reach. All (λ h. h ≤ MAX_FPGAS) reach.depths.items) }
+        ensures few { IfOk result (λ reach. length reach.potentials.items ≤ most_fpgas) }
+        ensures small { IfOk result (λ reach. All (All (λ v. v ≤ most_fpgas)) reach.potentials.items) }
+        ensures small_depths { IfOk result (λ reach. All (λ h. h ≤ most_fpgas) reach.depths.items) }
         ensures short_depths { IfOk result (λ reach.
             All (λ h. h ≤ length problem.now.wires) reach.depths.items) }
     {
@@ -65,7 +65,7 @@ fn hop_potentials(
     requires there { All (λ root. root < graph.now.fpgas) roots.now }
     ensures hops { IfOk result (λ potentials. (board : Board) → graph.now ≡ graph_of board
         → ArePotentialsFrom board (λ _. 1) roots.now potentials.items) }
-    ensures small { IfOk result (λ potentials. All (All (λ v. v ≤ MAX_FPGAS)) potentials.items) }
+    ensures small { IfOk result (λ potentials. All (All (λ v. v ≤ most_fpgas)) potentials.items) }
     ensures short { IfOk result (λ potentials. All (All (λ v. v ≤ length graph.now.wires)) potentials.items) }
 {
     let mut potentials = Vec::with_capacity(alloc, roots.len())?;
@@ -80,7 +80,7 @@ fn hop_potential(alloc: Global, graph: &BoardGraph, root: u32) -> Result<Potenti
     requires { root < graph.now.fpgas }
     ensures hops { IfOk result (λ potential. (board : Board) → graph.now ≡ graph_of board
         → IsRootPotential board (λ _. 1) root potential) }
-    ensures small { IfOk result (All (λ v. v ≤ MAX_FPGAS)) }
+    ensures small { IfOk result (All (λ v. v ≤ most_fpgas)) }
     ensures short { IfOk result (All (λ v. v ≤ length graph.now.wires)) }
 {
     let forest = hops(alloc, graph, root)?;

@@ -1,6 +1,6 @@
 //! A potential's values.
 ghost use Rattle.std.specs.Prelude.{◌≡◌, ◌≤◌, ◌^◌, All};
-ghost use Rattle.tdm_problem.specs.declared.limits.TheConstants.{MAX_FPGAS};
+ghost use Rattle.tdm_problem.specs.Limits.{most_fpgas};
 ghost use Rattle.bound_cert.specs.Scaling.{IsScaled};
 
 use std::marker::Model;
@@ -36,7 +36,7 @@ impl Potential {
 
     /// Multiplies each value by a length.
     pub(crate) fn scale(&mut self, length: u64)
-        requires small { All (λ v. v ≤ MAX_FPGAS) self.old }
+        requires small { All (λ v. v ≤ most_fpgas) self.old }
         requires short { length ≤ 2 ^ 40 }
         ensures { IsScaled length self.old self.new }
     {

@@ -2,7 +2,7 @@
 ghost use Rattle.std.specs.Prelude.{◌≡◌, ◌≤◌, ◌^◌, ◌*◌, ℕ, length, sum_by, slice_index, All, IfOk};
 ghost use Rattle.tdm_problem.specs.Sums.{sum_below};
 ghost use Rattle.tdm_problem.specs.Roots.{root_of};
-ghost use Rattle.tdm_problem.specs.declared.limits.TheConstants.{MAX_FPGAS, MAX_NETS, MAX_GROUPS};
+ghost use Rattle.tdm_problem.specs.Limits.{most_fpgas, most_nets, most_groups};
 ghost use Rattle.board_graph.specs.Graph.{graph_of};
 ghost use Rattle.bound_cert.specs.Limits.{most_potential_values, uniform_weight};
 ghost use Rattle.bound_cert.specs.Certificate.{IsCert, IsCertFor};
@@ -64,7 +64,7 @@ pub fn uniform_share_cert(
 /// The one length of all wires: the depths of all nets, by the roots of their weights, divided by the number of wires.
 fn uniform_length(alloc: Global, problem: &Problem, depths: &[u64]) -> Result<u64, AllocError>
     requires depths { AreDepths problem.now depths.now }
-    requires small { All (λ h. h ≤ MAX_FPGAS) depths.now }
+    requires small { All (λ h. h ≤ most_fpgas) depths.now }
     requires short { All (λ h. h ≤ length problem.now.wires) depths.now }
     ensures value { IfOk result (λ answer. answer ≡ wire_length_of problem.now depths.now) }
     ensures within { IfOk result (λ answer. answer ≤ 2 ^ 40) }
@@ -77,9 +77,9 @@ fn uniform_length(alloc: Global, problem: &Problem, depths: &[u64]) -> Result<u6
 /// The depths of all nets, by the roots of their weights: each group that holds a net adds the uniform weight.
 fn rooted_depths(holders: &[u32], depths: &[u64]) -> u64
     requires count { length holders.now ≡ length depths.now }
-    requires few { length depths.now ≤ MAX_NETS }
-    requires few_holders { All (λ count. count ≤ MAX_GROUPS) holders.now }
-    requires small { All (λ h. h ≤ MAX_FPGAS) depths.now }
+    requires few { length depths.now ≤ most_nets }
+    requires few_holders { All (λ count. count ≤ most_groups) holders.now }
+    requires small { All (λ h. h ≤ most_fpgas) depths.now }
     ensures total { result ≡ sum_below (length depths.now)
         (λ n. root_of (uniform_weight * slice_index holders.now n) * slice_index depths.now n) }
     ensures within { (most : ℕ) → All (λ h. h ≤ most) depths.now → result ≤ 2 ^ 40 * most }
@@ -93,8 +93,8 @@ fn rooted_depths(holders: &[u32], depths: &[u64]) -> u64
 
 /// The depth of a net that so many groups hold, by the root of its weight.
 fn rooted_depth(holders: u32, depth: u64) -> u64
-    requires few { holders ≤ MAX_GROUPS }
-    requires small { depth ≤ MAX_FPGAS }
+    requires few { holders ≤ most_groups }
+    requires small { depth ≤ most_fpgas }
     ensures value { result ≡ root_of (uniform_weight * holders) * depth }
     ensures within { result ≤ 2 ^ 20 * depth }
 {

@@ -10,7 +10,7 @@ use Rattle.tdm_lines.specs.declared.line.TokenFault.{TokenFault}
 use Rattle.tdm_lines.specs.declared.line.TokenFault.TheVariants as token
 use Rattle.tdm_lines.specs.Lines.{Line, lines, line_after, pieces}
 use Rattle.tdm_problem.specs.Board.{Board, IsBoard, IsWireOf, IsRowBelow}
-use Rattle.tdm_problem.specs.declared.limits.TheConstants.{MAX_FPGAS, MAX_WIRES, MAX_NETS, MAX_GROUPS, MAX_LISTED_FPGAS, MAX_LISTED_NETS}
+use Rattle.tdm_problem.specs.Limits.{most_fpgas, most_wires, most_nets, most_groups, most_listed_fpgas, most_listed_nets}
 use Rattle.tdm_problem.proofs.Repeats.{IsRowBelow-without_repeats, length-without_repeats}
 use Rattle.contest_input.specs.declared.fault.BoardRefusal.{BoardRefusal}
 use Rattle.contest_input.specs.declared.header.Sizes.{Sizes}
@@ -98,15 +98,15 @@ all-below limit (n ∷ numbers) none =
 abbrev IsListing : (fault : ℕ → List ℕ → Option BoardKind) (limit most : ℕ) → Type 0
 IsListing fault limit most = (listed : ℕ) (numbers : List ℕ) → fault listed numbers ≡ None → All (λ x. x < limit) numbers × (listed ≤ most)
 
-net-listing : (fpgas : ℕ) → IsListing (net_fault fpgas) fpgas MAX_LISTED_FPGAS
+net-listing : (fpgas : ℕ) → IsListing (net_fault fpgas) fpgas most_listed_fpgas
 net-listing fpgas listed numbers none =
     let there = if-none _ _ _ none in
-    (all-below fpgas numbers there.0, ltb-false MAX_LISTED_FPGAS listed (if-none _ _ _ there.1).0)
+    (all-below fpgas numbers there.0, ltb-false most_listed_fpgas listed (if-none _ _ _ there.1).0)
 
-group-listing : (nets : ℕ) → IsListing (group_fault nets) nets MAX_LISTED_NETS
+group-listing : (nets : ℕ) → IsListing (group_fault nets) nets most_listed_nets
 group-listing nets listed numbers none =
     let there = if-none _ _ _ none in
-    (all-below nets numbers there.0, ltb-false MAX_LISTED_NETS listed (if-none _ _ _ there.1).0)
+    (all-below nets numbers there.0, ltb-false most_listed_nets listed (if-none _ _ _ there.1).0)
 
 module _ (fault : ℕ → List ℕ → Option BoardKind) (limit most : ℕ) (listing : IsListing fault limit most) where
   rows-there : (listed : ℕ) (lines : List Line) → HaveNumbers lines → first_refusal (judged fault listed lines) ≡ None → listed ≤ most → All (IsRowBelow limit) (map listed_row lines) × (listed + sum_by length (map listed_row lines) ≤ most)
@@ -135,10 +135,10 @@ HaveNumbers-drop (suc count) (line ∷ later) have = HaveNumbers-drop count late
 
 -- the numbers of the header keep to the limits
 record IsWithin (sizes : Sizes) : Type 0 where
-  fpgas : sizes.fpgas ≤ MAX_FPGAS
-  wires : sizes.wires ≤ MAX_WIRES
-  nets : sizes.nets ≤ MAX_NETS
-  groups : sizes.groups ≤ MAX_GROUPS
+  fpgas : sizes.fpgas ≤ most_fpgas
+  wires : sizes.wires ≤ most_wires
+  nets : sizes.nets ≤ most_nets
+  groups : sizes.groups ≤ most_groups
 
 header-within : (header : Line) → of_header header ≡ None → IsWithin (sizes_of header.numbers)
 header-within header none =
@@ -148,10 +148,10 @@ header-within header none =
     let wires = or-none _ _ limited.1 in
     let others = or-none _ _ wires.1 in
     record {
-      fpgas = ltb-false MAX_FPGAS sizes.fpgas limited.0;
-      wires = ltb-false MAX_WIRES sizes.wires wires.0;
-      nets = ltb-false MAX_NETS sizes.nets others.0;
-      groups = ltb-false MAX_GROUPS sizes.groups others.1;
+      fpgas = ltb-false most_fpgas sizes.fpgas limited.0;
+      wires = ltb-false most_wires sizes.wires wires.0;
+      nets = ltb-false most_nets sizes.nets others.0;
+      groups = ltb-false most_groups sizes.groups others.1;
     }
 
 -- a section has as many rows as it has lines
@@ -177,8 +177,8 @@ accepted-lines end (header ∷ below) board have ok =
     let nets = section-none (net_fault sizes.fpgas) sizes.nets end behind_wires netted.0 in
     let groups = section-none (group_fault sizes.nets) sizes.groups end behind_nets grouped.0 in
     let have_wires = HaveNumbers-drop sizes.wires below have.1 in
-    let net_rows = rows-there (net_fault sizes.fpgas) sizes.fpgas MAX_LISTED_FPGAS (net-listing sizes.fpgas) 0 (take sizes.nets behind_wires) (HaveNumbers-take sizes.nets behind_wires have_wires) nets.0 (omega arith) in
-    let group_rows = rows-there (group_fault sizes.nets) sizes.nets MAX_LISTED_NETS (group-listing sizes.nets) 0 (take sizes.groups behind_nets) (HaveNumbers-take sizes.groups behind_nets (HaveNumbers-drop sizes.nets behind_wires have_wires)) groups.0 (omega arith) in
+    let net_rows = rows-there (net_fault sizes.fpgas) sizes.fpgas most_listed_fpgas (net-listing sizes.fpgas) 0 (take sizes.nets behind_wires) (HaveNumbers-take sizes.nets behind_wires have_wires) nets.0 (omega arith) in
+    let group_rows = rows-there (group_fault sizes.nets) sizes.nets most_listed_nets (group-listing sizes.nets) 0 (take sizes.groups behind_nets) (HaveNumbers-take sizes.groups behind_nets (HaveNumbers-drop sizes.nets behind_wires have_wires)) groups.0 (omega arith) in
     let net_count = rows-count listed_row sizes.nets behind_wires nets.1 in
     subst IsBoard (ok-equal _ _ ended.1) (record {
       fpga_limit = within.fpgas;

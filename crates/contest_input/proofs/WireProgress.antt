@@ -2,7 +2,7 @@
 use Rattle.std.proofs.Common.{◌≡◌, ℕ, suc, ◌+◌, ◌≤◌, List, [], ◌∷◌, ◌++◌, length, take, drop, map, None, refl, sym, ◌∙◌, ap, subst, arith, length-append}
 use Rattle.tdm_problem.specs.Board.{Board}
 use Rattle.tdm_problem.specs.declared.wire.Wire.{Wire}
-use Rattle.tdm_problem.specs.declared.limits.TheConstants.{MAX_WIRES}
+use Rattle.tdm_problem.specs.Limits.{most_wires}
 use Rattle.contest_input.specs.declared.fault.BoardFault.{BoardFault}
 use Rattle.contest_input.specs.declared.kind.BoardKind.TheVariants.{MissingLine}
 use Rattle.contest_input.specs.Faults.{wire_of, wire_fault}
@@ -16,10 +16,10 @@ pub record WiresSoFar (fpgas count : ℕ) (start : Reading) (board : Board) (lef
   pub lines : SoFar (λ _. wire_fault fpgas) wire_of start.end count start.lines board.wires left listed now.lines draft.wires
   pub same_end : now.end ≡ start.end
   pub same_draft : draft ≡ record board { wires = draft.wires }
-  pub room : length draft.wires + left ≤ MAX_WIRES
+  pub room : length draft.wires + left ≤ most_wires
 
 module _ {fpgas count : ℕ} {start : Reading} {board : Board} where
-  pub wires_start : (left : ℕ) → left ≡ count → length board.wires + count ≤ MAX_WIRES → WiresSoFar fpgas count start board left start board
+  pub wires_start : (left : ℕ) → left ≡ count → length board.wires + count ≤ most_wires → WiresSoFar fpgas count start board left start board
   wires_start left all room = record { listed = 0; lines = so_far_start left all; same_end = refl; same_draft = refl; room = omega arith }
 
   -- one more wire

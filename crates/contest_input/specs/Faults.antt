@@ -4,7 +4,7 @@ use Rattle.std.specs.List.{list_any}
 use Rattle.tdm_lines.specs.declared.line.TokenFault.{TokenFault}
 use Rattle.tdm_lines.specs.declared.line.TokenFault.TheVariants as token
 use Rattle.tdm_problem.specs.declared.wire.Wire.{Wire}
-use Rattle.tdm_problem.specs.declared.limits.TheConstants.{MAX_FPGAS, MAX_WIRES, MAX_NETS, MAX_GROUPS, MAX_LISTED_FPGAS, MAX_LISTED_NETS}
+use Rattle.tdm_problem.specs.Limits.{most_fpgas, most_wires, most_nets, most_groups, most_listed_fpgas, most_listed_nets}
 use Rattle.contest_input.specs.declared.header.Sizes.{Sizes}
 use Rattle.contest_input.specs.declared.kind.BoardKind.{BoardKind}
 use Rattle.contest_input.specs.declared.kind.BoardKind.TheVariants.{BadNumber, NumberTooLarge, WrongCount, CountLimit, UnknownFpga, SelfLoop, UnknownNet, TotalLimit}
@@ -33,8 +33,8 @@ abbrev pub header_fault : List ℕ → Option BoardKind
 header_fault numbers =
     let sizes = sizes_of numbers in
     if not (length numbers == 4) then Some WrongCount
-    else (if nat_lt MAX_FPGAS sizes.fpgas || (nat_lt MAX_WIRES sizes.wires
-    || (nat_lt MAX_NETS sizes.nets || nat_lt MAX_GROUPS sizes.groups)) then Some CountLimit
+    else (if nat_lt most_fpgas sizes.fpgas || (nat_lt most_wires sizes.wires
+    || (nat_lt most_nets sizes.nets || nat_lt most_groups sizes.groups)) then Some CountLimit
     else None)
 
 -- a wire line: two different FPGAs of the board
@@ -50,12 +50,12 @@ wire_fault fpgas numbers =
 abbrev pub net_fault : ℕ → ℕ → List ℕ → Option BoardKind
 net_fault fpgas listed numbers =
     if list_any (nat_le fpgas) numbers then Some UnknownFpga
-    else (if nat_lt MAX_LISTED_FPGAS listed then Some TotalLimit
+    else (if nat_lt most_listed_fpgas listed then Some TotalLimit
     else None)
 
 -- a group line: nets of the board, where this and all earlier group lines list so many
 abbrev pub group_fault : ℕ → ℕ → List ℕ → Option BoardKind
 group_fault nets listed numbers =
     if list_any (nat_le nets) numbers then Some UnknownNet
-    else (if nat_lt MAX_LISTED_NETS listed then Some TotalLimit
+    else (if nat_lt most_listed_nets listed then Some TotalLimit
     else None)

@@ -1,7 +1,7 @@
 //! The wire lines of a board text.
 ghost use Rattle.std.specs.Prelude.{◌≡◌, ◌+◌, ◌≤◌, ◌++◌, length, map, take, drop, IfOk, OnOk, IfErr, None};
 ghost use Rattle.tdm_problem.specs.Board.{IsWireOf};
-ghost use Rattle.tdm_problem.specs.declared.limits.TheConstants.{MAX_WIRES};
+ghost use Rattle.tdm_problem.specs.Limits.{most_wires};
 ghost use Rattle.contest_input.specs.declared.kind.BoardKind.TheVariants.{MissingLine};
 ghost use Rattle.contest_input.specs.Faults.{wire_of, wire_fault};
 ghost use Rattle.contest_input.specs.BoardText.{wire_row};
@@ -55,7 +55,7 @@ pub(crate) fn read_wires(
     fpgas: u32,
     draft: &mut ProblemDraft,
 ) -> Result<(), BoardFault>
-    requires room { length draft.old.wires + count ≤ MAX_WIRES }
+    requires room { length draft.old.wires + count ≤ most_wires }
     requires fpgas { draft.old.fpgas ≡ fpgas }
     ensures clean { OnOk result (section_refusal
         (λ _. wire_fault fpgas) count source.old.end source.old.lines ≡ None) }

@@ -6,7 +6,7 @@ use Rattle.std.proofs.lemmas.List.{take_more, length-map, length-take, get_or_de
 use Rattle.std.proofs.lemmas.List.Elements.{All-take, All-head, All-tail}
 use Rattle.std.proofs.lemmas.List.Kept.{AllPairs-from_increasing}
 use Rattle.tdm_problem.specs.declared.solution.WireUse.{WireUse}
-use Rattle.tdm_problem.specs.declared.limits.TheConstants.{MAX_NETS}
+use Rattle.tdm_problem.specs.Limits.{most_nets}
 use Rattle.tdm_problem.specs.Board.{Board}
 use Rattle.tdm_problem.specs.Routing.{wires_of}
 use Rattle.tdm_problem.specs.Trees.{tree_of, AreTreesFor, HasRisingRows}
@@ -20,7 +20,7 @@ distinct_row row up = λ i j d before inside. λ same.
     let below : get_or row i d < get_or row j d = AllPairs-from_increasing row up i j d before inside in omega arith
 
 -- a count of some of the nets is at most the number of nets that a board may have
-pub counts_small : (trees : List (List ℕ)) (n wires : ℕ) (counts : List ℕ) → HasRisingRows trees → CountsNets (take n trees) wires counts → All (λ count. count ≤ MAX_NETS) counts
+pub counts_small : (trees : List (List ℕ)) (n wires : ℕ) (counts : List ℕ) → HasRisingRows trees → CountsNets (take n trees) wires counts → All (λ count. count ≤ most_nets) counts
 counts_small trees n wires counts rising counted = λ e d inside.
     let most : nets_on (take n trees) e ≤ length (take n trees) = nets_on-le-length e (take n trees) (All-take (λ row. AllPairs (λ x y. x ≢ y) row) n trees (distinct_rows trees rising)) in
     let is : get_or counts e 0 ≡ nets_on (take n trees) e = counted.each e (omega (arith, counted.whole)) in
@@ -49,7 +49,7 @@ routing_more board trees n counts row uses for counted inside is_row is_uses =
     ∙ ap (λ u. take n (uniform_routing board trees) ++ u ∷ []) next
 
 -- the counts at the wires of a tree are at most the number of nets that a board may have
-pub row_counts_small : (board : Board) (trees : List (List ℕ)) (n : ℕ) (counts row : List ℕ) → AreTreesFor board trees → HasRisingRows trees → CountsNets trees (length board.wires) counts → n < length trees → tree_of trees n ≡ row → All (λ e. get_or counts e 0 ≤ MAX_NETS) row
+pub row_counts_small : (board : Board) (trees : List (List ℕ)) (n : ℕ) (counts row : List ℕ) → AreTreesFor board trees → HasRisingRows trees → CountsNets trees (length board.wires) counts → n < length trees → tree_of trees n ≡ row → All (λ e. get_or counts e 0 ≤ most_nets) row
 row_counts_small board trees n counts row for rising counted inside is_row = λ k d in_row.
     let there : All (λ e. e < length board.wires) row = subst (λ es. All (λ e. e < length board.wires) es) is_row (for.there n [] inside) in
     let most : nets_on trees (get_or row k d) ≤ length trees = nets_on-le-length (get_or row k d) trees (distinct_rows trees rising) in

@@ -5,7 +5,7 @@ use Rattle.std.proofs.lemmas.List.Elements.{All-head, All-tail}
 use Rattle.std.proofs.lemmas.List.Sums.{sum_by-cons}
 use Rattle.std.proofs.lemmas.Fmt.{length-decimal-le_wide}
 use Rattle.tdm_problem.specs.declared.solution.WireUse.{WireUse}
-use Rattle.tdm_problem.specs.declared.limits.TheConstants.{MAX_NETS}
+use Rattle.tdm_problem.specs.Limits.{most_nets}
 use Rattle.tdm_problem.specs.Board.{Board}
 use Rattle.tdm_problem.specs.Routing.{Routing}
 use Rattle.tdm_lines.specs.Digits.{digits}
@@ -50,5 +50,5 @@ length-solution_text board routing is = length-nets (length board.wires) (is.lim
 
 pub never_too_long : (board : Board) (routing : Routing) → IsSayable board routing → sum_by length routing ≤ 2 ^ 25 → length (solution_text routing) ≤ 2 ^ 30
 never_too_long board routing is few =
-    let nets : length routing ≤ MAX_NETS = is.rising.net_limit in
+    let nets : length routing ≤ most_nets = is.rising.net_limit in
     omega (arith, length-solution_text board routing is)

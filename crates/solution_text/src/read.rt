@@ -3,7 +3,7 @@ ghost use Rattle.std.specs.Prelude.{◌≡◌, ◌≢◌, ℕ, suc, ◌<◌, ◌
 ghost use Rattle.std.specs.List.{IsDistinct};
 ghost use Rattle.std.specs.List.Sorted.{IsStrictlyIncreasing};
 ghost use Rattle.tdm_problem.specs.declared.solution.WireUse.{WireUse as Use};
-ghost use Rattle.tdm_problem.specs.declared.limits.TheConstants.{MAX_NETS};
+ghost use Rattle.tdm_problem.specs.Limits.{most_nets};
 ghost use Rattle.tdm_problem.specs.Routing.{IsFor, wires_of};
 ghost use Rattle.solution_text.specs.Reading.{next_line, count_said, use_said, uses_from, net_from, nets_from, by_wire, solution_of};
 ghost use Rattle.solution_text.specs.Reader.{IsSameText};
@@ -238,7 +238,7 @@ impl<'a> Reader<'a> {
     fn read_nets(&mut self, alloc: Global, nets: u32) -> Result<Solution, SolutionFault>
         requires largest { self.old.lines.max ≡ 2 ^ 32 - 1 }
         requires unmarked { All (λ s. s ≤ 0) self.old.stamps.items }
-        requires limit { nets ≤ MAX_NETS }
+        requires limit { nets ≤ most_nets }
         ensures read { Leads result
             (nets_from (length self.old.stamps.items) self.old.after nets self.old.lines.lines)
             (λ solution. with_nets solution

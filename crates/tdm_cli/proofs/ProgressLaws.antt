@@ -13,7 +13,7 @@ use Rattle.tdm_problem.specs.Legal.{terminals_of, source_of}
 use Rattle.tdm_problem.specs.Trees.{tree_of}
 use Rattle.shortest_forest.specs.Baseline.{IsBaseTree}
 use Rattle.tdm_cli.specs.declared.baseline.TheConstants.{MAX_USES}
-use Rattle.tdm_problem.specs.declared.limits.TheConstants.{MAX_NETS}
+use Rattle.tdm_problem.specs.Limits.{most_nets}
 use Rattle.tdm_cli.specs.Progress.{AreBasedSoFar, IsProgress}
 
 -- a number below the next is below this one, or is this one
@@ -150,7 +150,7 @@ module _ (board : Board) (n : ℕ) (trees : List (List ℕ)) (used : ℕ) (missi
       }
 
 -- the first net of none: nothing is missing and nothing is used
-pub progress-none : (board : Board) → length board.nets ≤ MAX_NETS → IsProgress board 0 [] 0 []
+pub progress-none : (board : Board) → length board.nets ≤ most_nets → IsProgress board 0 [] 0 []
 progress-none board limit = record {
   limit = limit;
   few = omega arith;

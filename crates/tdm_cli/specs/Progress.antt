@@ -2,7 +2,7 @@
 use Rattle.std.specs.Prelude.{◌≡◌, ℕ, ◌<◌, ◌≤◌, ◌↔◌, List, [], length, sum_by, Contains, Option, Some, None, slice_index_or, Bool, true, false}
 use Rattle.std.specs.List.Sorted.{IsStrictlyIncreasing}
 use Rattle.tdm_problem.specs.Board.{Board}
-use Rattle.tdm_problem.specs.declared.limits.TheConstants.{MAX_NETS}
+use Rattle.tdm_problem.specs.Limits.{most_nets}
 use Rattle.tdm_problem.specs.Walk.{IsConnectable}
 use Rattle.tdm_problem.specs.Legal.{terminals_of, source_of}
 use Rattle.tdm_problem.specs.Trees.{tree_of}
@@ -22,7 +22,7 @@ pub record AreBasedSoFar (board : Board) (nets : ℕ) (trees : List (List ℕ)) 
 
 -- of the first nets the missing ones are those that no wires join; where none is missing, they have baseline trees
 pub record IsProgress (board : Board) (nets : ℕ) (trees : List (List ℕ)) (used : ℕ) (missing : List ℕ) : Type 0 where
-  pub limit : length board.nets ≤ MAX_NETS
+  pub limit : length board.nets ≤ most_nets
   pub few : length trees ≤ nets
   pub rising : IsStrictlyIncreasing missing
   pub exact : (n : ℕ) → Contains missing n ↔ ((n < nets) × (IsConnectable board (terminals_of board n) → ⊥))

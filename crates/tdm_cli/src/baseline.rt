@@ -4,7 +4,7 @@ ghost use Rattle.std.specs.List.Sorted.{IsStrictlyIncreasing};
 ghost use Rattle.tdm_problem.specs.Board.{Board, IsBoard};
 ghost use Rattle.tdm_problem.specs.Walk.{IsConnectable};
 ghost use Rattle.tdm_problem.specs.Legal.{terminals_of, AllConnectable, source_of};
-ghost use Rattle.tdm_problem.specs.declared.limits.TheConstants.{MAX_NETS};
+ghost use Rattle.tdm_problem.specs.Limits.{most_nets};
 ghost use Rattle.board_graph.specs.Graph.{graph_of};
 ghost use Rattle.shortest_forest.specs.Baseline.{IsBaseTree, AreBaseTrees};
 ghost use Rattle.shortest_forest.specs.Reach.{IsHopForest};
@@ -137,7 +137,7 @@ impl Progress {
 
     /// Counts the wires of the next net's tree, and keeps the tree up to the limit.
     fn keep(&mut self, tree: &[u32]) -> Result<(), AllocError>
-        requires room { length self.old.trees < MAX_NETS }
+        requires room { length self.old.trees < most_nets }
         requires rising { IsStrictlyIncreasing tree.now }
         ensures { OnOk result ((board : Board) (n : ℕ)
             → IsProgress board n self.old.trees self.old.used self.old.missing.items

@@ -3,7 +3,7 @@ use Rattle.std.specs.Prelude.{sum_by, OnOk, OnErr}
 use Rattle.std.proofs.lemmas.List.{length_push}
 use Rattle.std.proofs.lemmas.List.Elements.{All-push, All-weaker}
 use Rattle.std.proofs.lemmas.List.Sums.{sum_by_push}
-use Rattle.tdm_problem.specs.declared.limits.TheConstants.{MAX_NETS, MAX_GROUPS, MAX_LISTED_FPGAS, MAX_LISTED_NETS}
+use Rattle.tdm_problem.specs.Limits.{most_nets, most_groups, most_listed_fpgas, most_listed_nets}
 use Rattle.tdm_problem.specs.Board.{Board, IsBoard, IsRowBelow}
 
 -- a row below a limit is below a larger one
@@ -15,7 +15,7 @@ IsRowBelow-weaker low high h row is = record {
 }
 
 -- a board with one net more is a board
-pub IsBoard-push_net : (board : Board) (net : List ℕ) → IsBoard board → length board.nets < MAX_NETS → sum_by length board.nets + length net ≤ MAX_LISTED_FPGAS → IsRowBelow board.fpgas net → IsBoard (record board { nets = board.nets ++ net ∷ [] })
+pub IsBoard-push_net : (board : Board) (net : List ℕ) → IsBoard board → length board.nets < most_nets → sum_by length board.nets + length net ≤ most_listed_fpgas → IsRowBelow board.fpgas net → IsBoard (record board { nets = board.nets ++ net ∷ [] })
 IsBoard-push_net board net is room room_listed row = record {
   fpga_limit = is.fpga_limit;
   wire_limit = is.wire_limit;
@@ -31,7 +31,7 @@ IsBoard-push_net board net is room room_listed row = record {
 }
 
 -- a board with one group more is a board
-pub IsBoard-push_group : (board : Board) (group : List ℕ) → IsBoard board → length board.groups < MAX_GROUPS → sum_by length board.groups + length group ≤ MAX_LISTED_NETS → IsRowBelow (length board.nets) group → IsBoard (record board { groups = board.groups ++ group ∷ [] })
+pub IsBoard-push_group : (board : Board) (group : List ℕ) → IsBoard board → length board.groups < most_groups → sum_by length board.groups + length group ≤ most_listed_nets → IsRowBelow (length board.nets) group → IsBoard (record board { groups = board.groups ++ group ∷ [] })
 IsBoard-push_group board group is room room_listed row = record {
   fpga_limit = is.fpga_limit;
   wire_limit = is.wire_limit;

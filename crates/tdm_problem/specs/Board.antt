@@ -1,6 +1,6 @@
 use Rattle.std.specs.Prelude.{◌≢◌, ℕ, ◌<◌, ◌≤◌, not, ◌==◌, List, [], ◌∷◌, length, filter, sum_by, All, AllPairs}
 use Rattle.tdm_problem.specs.declared.wire.Wire.{Wire}
-use Rattle.tdm_problem.specs.declared.limits.TheConstants.{MAX_FPGAS, MAX_WIRES, MAX_NETS, MAX_GROUPS, MAX_LISTED_FPGAS, MAX_LISTED_NETS}
+use Rattle.tdm_problem.specs.Limits.{most_fpgas, most_wires, most_nets, most_groups, most_listed_fpgas, most_listed_nets}
 
 -- a board: how many FPGAs it has, its wires, the FPGAs of each net with the source first, and the nets of each group
 pub record Board : Type 0 where
@@ -23,12 +23,12 @@ pub record IsRowBelow (limit : ℕ) (row : List ℕ) : Type 0 where
 
 -- the board keeps to the limits, and all its numbers name something
 pub record IsBoard (board : Board) : Type 0 where
-  pub fpga_limit : board.fpgas ≤ MAX_FPGAS
-  pub wire_limit : length board.wires ≤ MAX_WIRES
-  pub net_limit : length board.nets ≤ MAX_NETS
-  pub group_limit : length board.groups ≤ MAX_GROUPS
-  pub net_total : sum_by length board.nets ≤ MAX_LISTED_FPGAS
-  pub group_total : sum_by length board.groups ≤ MAX_LISTED_NETS
+  pub fpga_limit : board.fpgas ≤ most_fpgas
+  pub wire_limit : length board.wires ≤ most_wires
+  pub net_limit : length board.nets ≤ most_nets
+  pub group_limit : length board.groups ≤ most_groups
+  pub net_total : sum_by length board.nets ≤ most_listed_fpgas
+  pub group_total : sum_by length board.groups ≤ most_listed_nets
   pub wires : All (IsWireOf board.fpgas) board.wires
   pub nets : All (IsRowBelow board.fpgas) board.nets
   pub groups : All (IsRowBelow (length board.nets)) board.groups

@@ -1,3 +1,4 @@
+pub mod Limits
 pub mod Board
 pub mod Fit
 pub mod Routing

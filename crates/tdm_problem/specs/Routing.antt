@@ -1,7 +1,7 @@
 use Rattle.std.specs.Prelude.{◌≡◌, ◌≢◌, ℕ, ◌<◌, ◌≤◌, ◌==◌, List, [], ◌∷◌, ◌++◌, length, map, filter, slice_index, slice_index_or, slice_set, All, AllPairs}
 use Rattle.std.specs.List.Sorted.{IsStrictlyIncreasing}
 use Rattle.tdm_problem.specs.declared.solution.WireUse.{WireUse}
-use Rattle.tdm_problem.specs.declared.limits.TheConstants.{MAX_NETS}
+use Rattle.tdm_problem.specs.Limits.{most_nets}
 use Rattle.tdm_problem.specs.Board.{Board}
 
 -- what a solution says: net by net, the uses of wires
@@ -33,7 +33,7 @@ pub record IsFor (board : Board) (routing : Routing) : Type 0 where
 
 -- for no more nets than a board may have, each net's wires rising strictly
 pub record HasRisingWires (routing : Routing) : Type 0 where
-  pub net_limit : length routing ≤ MAX_NETS
+  pub net_limit : length routing ≤ most_nets
   pub rising : All (λ uses. IsStrictlyIncreasing (wires_of uses)) routing
 
 -- the routing with this ratio at a place of net n

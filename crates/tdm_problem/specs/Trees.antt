@@ -1,6 +1,6 @@
 use Rattle.std.specs.Prelude.{◌≡◌, ℕ, ◌<◌, ◌≤◌, List, [], length, map, slice_index_or, All}
 use Rattle.std.specs.List.Sorted.{IsStrictlyIncreasing}
-use Rattle.tdm_problem.specs.declared.limits.TheConstants.{MAX_NETS}
+use Rattle.tdm_problem.specs.Limits.{most_nets}
 use Rattle.tdm_problem.specs.Board.{Board}
 use Rattle.tdm_problem.specs.Routing.{Routing, wires_of}
 
@@ -10,7 +10,7 @@ tree_of trees n = slice_index_or trees n []
 
 -- for no more nets than a board may have, each net's wires rising strictly
 pub record HasRisingRows (trees : List (List ℕ)) : Type 0 where
-  pub net_limit : length trees ≤ MAX_NETS
+  pub net_limit : length trees ≤ most_nets
   pub rising : All IsStrictlyIncreasing trees
 
 -- the trees have wires for each net of the board, and the wires are there

@@ -1,5 +1,6 @@
 //! The definitions, computed on small boards.
 ghost use Rattle.std.specs.Prelude.{◌≡◌, ◌*◌, ◌^◌, ◌-◌, [], ◌∷◌, Contains};
+ghost use Rattle.tdm_problem.specs.declared.limits.TheConstants.{LANES, MAX_FPGAS, MAX_GROUPS, MAX_LISTED_FPGAS, MAX_LISTED_NETS, MAX_NETS, MAX_WIRES};
 ghost use Rattle.tdm_problem.specs.Board.{IsBoard, without_repeats};
 ghost use Rattle.tdm_problem.specs.Distance.{IsDistance, IsHopCount};
 ghost use Rattle.tdm_problem.specs.Fit.{FitsLanes};
@@ -110,4 +111,15 @@ fn roots_round_down()
     ensures below_square { root_of 15 ≡ 3 }
     ensures square { root_of 16 ≡ 4 }
     ensures largest { IsRoot (2 ^ 64 - 1) 4294967295 }
+{}
+
+/// The code's limits are those of the definitions.
+fn the_limits_of_the_code()
+    ensures fpgas { MAX_FPGAS ≡ 4096 }
+    ensures wires { MAX_WIRES ≡ 65536 }
+    ensures nets { MAX_NETS ≡ 2 ^ 20 }
+    ensures groups { MAX_GROUPS ≡ 2 ^ 20 }
+    ensures listed_fpgas { MAX_LISTED_FPGAS ≡ 2 ^ 24 }
+    ensures listed_nets { MAX_LISTED_NETS ≡ 2 ^ 24 }
+    ensures lanes { LANES ≡ 1 }
 {}

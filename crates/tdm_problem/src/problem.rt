@@ -1,7 +1,7 @@
 //! Boards with their nets and groups.
 ghost use Rattle.std.specs.Prelude.{◌≡◌, ◌+◌, ◌<◌, ◌≤◌, [], ◌∷◌, ◌++◌, length, sum_by, All, slice_get, slice_index_or, Some, OnOk, OnErr};
 ghost use Rattle.tdm_problem.specs.Board.{IsBoard, IsWireOf, IsRowBelow, without_repeats};
-ghost use Rattle.tdm_problem.specs.declared.limits.TheConstants.{MAX_FPGAS, MAX_WIRES, MAX_NETS, MAX_GROUPS, MAX_LISTED_FPGAS, MAX_LISTED_NETS};
+ghost use Rattle.tdm_problem.specs.Limits.{most_fpgas, most_wires, most_nets, most_groups, most_listed_fpgas, most_listed_nets};
 
 use crate::firsts::Firsts;
 use crate::rows::Rows;
@@ -32,7 +32,7 @@ impl Model for Problem {
 impl Problem {
     /// A board without wires, nets and groups.
     fn new(alloc: Global, fpgas: u32) -> Problem
-        requires { fpgas ≤ MAX_FPGAS }
+        requires { fpgas ≤ most_fpgas }
         ensures { result ≡ record { fpgas = fpgas; wires = []; nets = []; groups = [] } }
     {
         Problem {
@@ -106,7 +106,7 @@ impl Problem {
 
     /// Adds a wire after the others.
     fn push_wire(&mut self, wire: Wire) -> Result<(), AllocError>
-        requires room { length self.old.wires < MAX_WIRES }
+        requires room { length self.old.wires < most_wires }
         requires joins { IsWireOf self.old.fpgas wire }
         ensures ok { OnOk result (self.new ≡ record self.old { wires = self.old.wires ++ wire ∷ [] }) }
         ensures err { OnErr result (self.new ≡ self.old) }
@@ -120,8 +120,8 @@ impl Problem {
 
     /// Adds a net after the others.
     fn push_net(&mut self, fpgas: &[u32]) -> Result<(), AllocError>
-        requires room { length self.old.nets < MAX_NETS }
-        requires room_listed { sum_by length self.old.nets + length fpgas.now ≤ MAX_LISTED_FPGAS }
+        requires room { length self.old.nets < most_nets }
+        requires room_listed { sum_by length self.old.nets + length fpgas.now ≤ most_listed_fpgas }
         requires row { IsRowBelow self.old.fpgas fpgas.now }
         ensures ok { OnOk result (self.new ≡ record self.old { nets = self.old.nets ++ fpgas.now ∷ [] }) }
         ensures err { OnErr result (self.new ≡ self.old) }
@@ -132,8 +132,8 @@ impl Problem {
 
     /// Adds a group after the others.
     fn push_group(&mut self, nets: &[u32]) -> Result<(), AllocError>
-        requires room { length self.old.groups < MAX_GROUPS }
-        requires room_listed { sum_by length self.old.groups + length nets.now ≤ MAX_LISTED_NETS }
+        requires room { length self.old.groups < most_groups }
+        requires room_listed { sum_by length self.old.groups + length nets.now ≤ most_listed_nets }
         requires row { IsRowBelow (length self.old.nets) nets.now }
         ensures ok { OnOk result (self.new ≡ record self.old { groups = self.old.groups ++ nets.now ∷ [] }) }
         ensures err { OnErr result (self.new ≡ self.old) }
@@ -162,7 +162,7 @@ impl Model for ProblemDraft {
 impl ProblemDraft {
     /// A board with this many FPGAs, and without wires, nets and groups.
     pub fn new(alloc: Global, fpgas: u32) -> ProblemDraft
-        requires { fpgas ≤ MAX_FPGAS }
+        requires { fpgas ≤ most_fpgas }
         ensures empty { result ≡ record { fpgas = fpgas; wires = []; nets = []; groups = [] } }
         ensures board { IsBoard result }
     {
@@ -174,7 +174,7 @@ impl ProblemDraft {
 
     /// Adds a wire between two different FPGAs of the board. The draft is unchanged where memory is wanting.
     pub fn push_wire(&mut self, wire: Wire) -> Result<(), AllocError>
-        requires room { length self.old.wires < MAX_WIRES }
+        requires room { length self.old.wires < most_wires }
         requires joins { IsWireOf self.old.fpgas wire }
         ensures ok { OnOk result (self.new ≡ record self.old { wires = self.old.wires ++ wire ∷ [] }) }
         ensures err { OnErr result (self.new ≡ self.old) }
@@ -186,8 +186,8 @@ impl ProblemDraft {
     /// Adds a net that joins these FPGAs, at least one, the source first. Of an FPGA that is listed
     /// repeatedly the first is kept. The draft is unchanged where memory is wanting.
     pub fn push_net(&mut self, fpgas: &[u32]) -> Result<(), AllocError>
-        requires room { length self.old.nets < MAX_NETS }
-        requires room_listed { sum_by length self.old.nets + length fpgas.now ≤ MAX_LISTED_FPGAS }
+        requires room { length self.old.nets < most_nets }
+        requires room_listed { sum_by length self.old.nets + length fpgas.now ≤ most_listed_fpgas }
         requires some { 0 < length fpgas.now }
         requires there { All (λ f. f < self.old.fpgas) fpgas.now }
         ensures ok { OnOk result (self.new ≡ record self.old {
@@ -205,8 +205,8 @@ impl ProblemDraft {
     /// Adds a group of these nets, at least one, which were pushed before. Of a net that is listed
     /// repeatedly the first is kept. The draft is unchanged where memory is wanting.
     pub fn push_group(&mut self, nets: &[u32]) -> Result<(), AllocError>
-        requires room { length self.old.groups < MAX_GROUPS }
-        requires room_listed { sum_by length self.old.groups + length nets.now ≤ MAX_LISTED_NETS }
+        requires room { length self.old.groups < most_groups }
+        requires room_listed { sum_by length self.old.groups + length nets.now ≤ most_listed_nets }
         requires some { 0 < length nets.now }
         requires there { All (λ n. n < length self.old.nets) nets.now }
         ensures ok { OnOk result (self.new ≡ record self.old {

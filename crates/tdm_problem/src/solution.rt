@@ -1,7 +1,7 @@
 //! Solutions: the wires of each net, each with a ratio.
 ghost use Rattle.std.specs.Prelude.{◌≡◌, ◌<◌, ◌≤◌, [], ◌∷◌, ◌++◌, length, slice_get, slice_index_or, Some, IfOk, OnOk, OnErr};
 ghost use Rattle.std.specs.List.Sorted.{IsStrictlyIncreasing};
-ghost use Rattle.tdm_problem.specs.declared.limits.TheConstants.{MAX_NETS};
+ghost use Rattle.tdm_problem.specs.Limits.{most_nets};
 ghost use Rattle.tdm_problem.specs.Routing.{uses_of, wires_of, with_ratio, HasRisingWires};
 
 use crate::rows::Rows;
@@ -61,7 +61,7 @@ impl Solution {
 
     /// Adds the uses of the next net, their wires rising strictly. The solution is unchanged where memory is wanting.
     pub fn push_net(&mut self, uses: &[WireUse]) -> Result<(), AllocError>
-        requires room { length self.old < MAX_NETS }
+        requires room { length self.old < most_nets }
         requires rising { IsStrictlyIncreasing (wires_of uses.now) }
         ensures ok { OnOk result (self.new ≡ self.old ++ uses.now ∷ []) }
         ensures err { OnErr result (self.new ≡ self.old) }

@@ -1,7 +1,7 @@
 //! The wires of each net, without ratios.
 ghost use Rattle.std.specs.Prelude.{◌≡◌, ◌<◌, ◌≤◌, [], ◌∷◌, ◌++◌, length, slice_get, slice_index_or, Some, IfOk, OnOk, OnErr};
 ghost use Rattle.std.specs.List.Sorted.{IsStrictlyIncreasing};
-ghost use Rattle.tdm_problem.specs.declared.limits.TheConstants.{MAX_NETS};
+ghost use Rattle.tdm_problem.specs.Limits.{most_nets};
 ghost use Rattle.tdm_problem.specs.Trees.{tree_of, HasRisingRows};
 
 use crate::rows::Rows;
@@ -55,7 +55,7 @@ impl Trees {
 
     /// Adds the wires of the next net, rising strictly. The trees are unchanged where memory is wanting.
     pub fn push_net(&mut self, wires: &[u32]) -> Result<(), AllocError>
-        requires room { length self.old < MAX_NETS }
+        requires room { length self.old < most_nets }
         requires rising { IsStrictlyIncreasing wires.now }
         ensures ok { OnOk result (self.new ≡ self.old ++ wires.now ∷ []) }
         ensures err { OnErr result (self.new ≡ self.old) }

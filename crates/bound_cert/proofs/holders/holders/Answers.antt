@@ -1,12 +1,12 @@
 use Rattle.std.proofs.Common.{ℕ, ◌<◌, List, length, subst, sym, arith}
 use Rattle.std.specs.Prelude.{All}
-use Rattle.tdm_problem.specs.declared.limits.TheConstants.{MAX_GROUPS}
+use Rattle.tdm_problem.specs.Limits.{most_groups}
 use Rattle.bound_cert.proofs.HolderLaws.{held_few}
 use Rattle.bound_cert.proofs.holders.holders.Goals as goal
 
 pub count_members-requires-clause-few : goal.count_members-requires-clause-few
 count_members-requires-clause-few c =
-    subst (λ (counts : List ℕ). All (λ count. count < MAX_GROUPS) counts) (sym c.deref_mut.ensures.value)
+    subst (λ (counts : List ℕ). All (λ count. count < most_groups) counts) (sym c.deref_mut.ensures.value)
     (λ n d there.
     omega (
       arith,

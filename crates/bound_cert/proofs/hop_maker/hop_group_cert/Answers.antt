@@ -1,6 +1,6 @@
 use Rattle.std.proofs.Common.{◌≡◌, ℕ, ◌≤◌, List, length, replicate, sym, ap, ◌∙◌, subst, arith}
 use Rattle.std.specs.Prelude.{sum_by}
-use Rattle.tdm_problem.specs.declared.limits.TheConstants.{MAX_FPGAS}
+use Rattle.tdm_problem.specs.Limits.{most_fpgas}
 use Rattle.bound_cert.specs.Limits.{most_potential_values}
 use Rattle.bound_cert.specs.Certificate.{Cert}
 use Rattle.bound_cert.specs.Bound.{bound_of}
@@ -28,7 +28,7 @@ from_parts-requires-clause-weights_within c =
 
 pub from_parts-requires-clause-potentials_within : goal.from_parts-requires-clause-potentials_within
 from_parts-requires-clause-potentials_within c =
-    potentials_within c.args.problem.now (λ _. 1) c.in_ok-reach.reach.potentials.items c.in_ok-reach.ensures.potentials c.wires.ensures.board MAX_FPGAS (omega arith) c.in_ok-reach.ensures.small
+    potentials_within c.args.problem.now (λ _. 1) c.in_ok-reach.reach.potentials.items c.in_ok-reach.ensures.potentials c.wires.ensures.board most_fpgas (omega arith) c.in_ok-reach.ensures.small
 
 pub from_parts-requires-clause-choices_there : goal.from_parts-requires-clause-choices_there
 from_parts-requires-clause-choices_there c =

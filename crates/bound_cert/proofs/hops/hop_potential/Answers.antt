@@ -1,6 +1,6 @@
 use Rattle.std.proofs.Common.{ℕ, ◌≤◌, List, length, sym, ◌∙◌, subst}
 use Rattle.std.specs.Prelude.{All}
-use Rattle.tdm_problem.specs.declared.limits.TheConstants.{MAX_FPGAS}
+use Rattle.tdm_problem.specs.Limits.{most_fpgas}
 use Rattle.bound_cert.specs.Makers.{IsRootPotential}
 use Rattle.bound_cert.proofs.HopValues.{all_small, all_short, all_hops}
 use Rattle.bound_cert.proofs.hops.hop_potential.Goals as goal
@@ -12,7 +12,7 @@ returns-clause-hops c board same =
 
 pub returns-clause-small : goal.returns-clause-small
 returns-clause-small c =
-    subst (λ (values : List ℕ). All (λ v. v ≤ MAX_FPGAS) values) (sym (c.new.ensures ∙ c.in_ok-values.ensures.values))
+    subst (λ (values : List ℕ). All (λ v. v ≤ most_fpgas) values) (sym (c.new.ensures ∙ c.in_ok-values.ensures.values))
     (all_small c.args.graph.now c.in_ok-forest.forest c.in_ok-values.ensures.graph c.in_ok-forest.ensures.hops)
 
 pub returns-clause-short : goal.returns-clause-short

@@ -2,7 +2,7 @@ use Rattle.std.proofs.Common.{◌≡◌, ℕ, ◌+◌, ◌<◌, ◌≤◌, List,
 use Rattle.std.specs.Prelude.{All, slice_index}
 use Rattle.std.proofs.lemmas.List.{length_push}
 use Rattle.std.proofs.lemmas.List.Elements.{All-push}
-use Rattle.tdm_problem.specs.declared.limits.TheConstants.{MAX_FPGAS}
+use Rattle.tdm_problem.specs.Limits.{most_fpgas}
 use Rattle.bound_cert.specs.Makers.{IsRootPotential}
 use Rattle.bound_cert.proofs.RootLaws.{each_pushed}
 use Rattle.bound_cert.proofs.hops.hop_potentials.Goals as goal
@@ -12,7 +12,7 @@ loop-root-preserved c =
     let old : List (List ℕ) = c.loop-root.potentials.items in
     let new : List ℕ = c.in_ok-hop_potential.field-0 in
     let pushed : c.push.new.self.items ≡ old ++ new ∷ [] = c.in_ok-push.ensures.items in
-    let Small : List ℕ → Type 0 = All (λ v. v ≤ MAX_FPGAS) in
+    let Small : List ℕ → Type 0 = All (λ v. v ≤ most_fpgas) in
     let Short : List ℕ → Type 0 = All (λ v. v ≤ length c.args.graph.now.wires) in
     record {
       count = subst (λ (ps : List (List ℕ)). length ps ≡ c.loop-root.root-index + 1) (sym pushed) (omega (arith, length_push old new, c.loop-root.invariant.count));

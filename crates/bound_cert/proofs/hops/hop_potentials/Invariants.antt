@@ -1,7 +1,7 @@
 use Rattle.std.proofs.Common.{◌≡◌, ℕ, ◌<◌, ◌≤◌, [], length, get_or}
 use Rattle.std.specs.Prelude.{All, slice_index}
 use Rattle.tdm_problem.specs.Board.{Board}
-use Rattle.tdm_problem.specs.declared.limits.TheConstants.{MAX_FPGAS}
+use Rattle.tdm_problem.specs.Limits.{most_fpgas}
 use Rattle.board_graph.specs.Graph.{graph_of}
 use Rattle.bound_cert.specs.Makers.{IsRootPotential}
 use Rattle.bound_cert.proofs.hops.hop_potentials.Given as goal
@@ -10,6 +10,6 @@ abbrev pub invariant-loop-root : goal.invariant-loop-root
 invariant-loop-root l = record {
   count : length l.potentials.items ≡ l.root-index;
   each : (board : Board) → l.graph ≡ graph_of board → (p : ℕ) → p < l.root-index → IsRootPotential board (λ _. 1) (slice_index l.roots p) (get_or l.potentials.items p []);
-  small : All (All (λ v. v ≤ MAX_FPGAS)) l.potentials.items;
+  small : All (All (λ v. v ≤ most_fpgas)) l.potentials.items;
   short : All (All (λ v. v ≤ length l.graph.wires)) l.potentials.items;
 }

@@ -1,6 +1,6 @@
 use Rattle.std.proofs.Common.{◌≡◌, ℕ, ◌*◌, ◌≤◌, ap, ◌∙◌, arith}
 use Rattle.std.proofs.lemmas.Nat.{mul-le}
-use Rattle.tdm_problem.specs.declared.limits.TheConstants.{MAX_FPGAS}
+use Rattle.tdm_problem.specs.Limits.{most_fpgas}
 use Rattle.tdm_problem.specs.Roots.{root_of}
 use Rattle.tdm_problem.proofs.Roots.{root_of-is}
 use Rattle.bound_cert.specs.Limits.{uniform_weight}
@@ -13,7 +13,7 @@ small c =
     omega (arith, root_small c.isqrt-root.result c.args.holders square c.requires.few, c.from-2.ensures)
 
 pub overflow_mul-result : goal.overflow_mul-result
-overflow_mul-result c = omega (arith, mul-le c.from-2.result c.args.depth uniform_weight MAX_FPGAS (small c) c.requires.small)
+overflow_mul-result c = omega (arith, mul-le c.from-2.result c.args.depth uniform_weight most_fpgas (small c) c.requires.small)
 
 pub returns-clause-value : goal.returns-clause-value
 returns-clause-value c =

@@ -1,7 +1,7 @@
 use Rattle.std.proofs.Common.{◌≡◌, ℕ, ◌<◌, ◌≤◌, ◌^◌, List, length, get_or, sym, ◌∙◌, subst, arith}
 use Rattle.std.proofs.lemmas.List.{with_items_is}
 use Rattle.std.proofs.lemmas.Nat.{mul-le}
-use Rattle.tdm_problem.specs.declared.limits.TheConstants.{MAX_FPGAS}
+use Rattle.tdm_problem.specs.Limits.{most_fpgas}
 use Rattle.bound_cert.specs.Scaling.{IsScaled}
 use Rattle.bound_cert.proofs.InPlace.{IsReplacedBelow, replaced_none, replaced_more}
 use Rattle.bound_cert.proofs.ScaleLaws.{IsTimes, IsScaled-done}
@@ -17,8 +17,8 @@ overflow_mul-value c =
     let i : ℕ = c.loop-value.value-index in
     let same : get_or c.loop-value.value-items i 0 ≡ get_or c.args.self.now i 0 = c.loop-value.invariant.left i (omega arith) in
     let there : i < length c.args.self.now = omega (arith, c.loop-value.invariant.count) in
-    let small : get_or c.loop-value.value-items i 0 ≤ MAX_FPGAS = omega (arith, same, c.requires.small i 0 there) in
-    omega (arith, mul-le (get_or c.loop-value.value-items i 0) c.args.length MAX_FPGAS (2 ^ 40) small c.requires.short)
+    let small : get_or c.loop-value.value-items i 0 ≤ most_fpgas = omega (arith, same, c.requires.small i 0 there) in
+    omega (arith, mul-le (get_or c.loop-value.value-items i 0) c.args.length most_fpgas (2 ^ 40) small c.requires.short)
 
 pub loop-value-preserved : goal.loop-value-preserved
 loop-value-preserved c =
