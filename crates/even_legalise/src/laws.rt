@@ -5,8 +5,8 @@ ghost use Rattle.tdm_problem.specs.Legal.{IsEvenRatio};
 ghost use Rattle.even_legalise.specs.Uniform.{uniform_ratio};
 
 /// The uniform ratio is the least even ratio with which that many nets fit these lanes if all have it: it is
-/// positive and even where there are a net and a lane, and the nets fit with a positive even ratio exactly where
-/// that is no less than the uniform ratio.
+/// positive and even where there are a net and a lane, and where there is a lane the nets fit with a positive even
+/// ratio exactly where that is no less than the uniform ratio.
 pub fn uniform_is_least()
     ensures even { (nets lanes : ℕ) → 0 < nets → 0 < lanes →
         IsEvenRatio (uniform_ratio nets lanes) }

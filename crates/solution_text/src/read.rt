@@ -16,7 +16,7 @@ use std::alloc::{AllocError, Global};
 use tdm_lines::{LineCursor, TokenFault, line_after};
 use tdm_problem::{Problem, Solution, WireUse};
 
-// The largest number of a solution text.
+/// The largest number of a solution text.
 const LARGEST_NUMBER: u64 = 4_294_967_295;
 
 /// The most bytes of a solution text, which are 2^30.
@@ -50,14 +50,14 @@ pub fn read_solution(
     Ok(solution)
 }
 
-// A refusal of this kind, which names this line.
+/// A refusal of this kind, which names this line.
 fn refused(kind: SolutionKind, line: u32) -> SolutionFault
     ensures { result ≡ SolutionFault.Refused (record { kind = kind; line = line }) }
 {
     SolutionFault::Refused(SolutionRefusal { kind, line })
 }
 
-// How many uses a net has, by the numbers of its count line.
+/// How many uses a net has, by the numbers of its count line.
 fn count_said(line: u32, numbers: &[u64]) -> Result<u32, SolutionFault>
     requires { All (λ n. n < 2 ^ 32) numbers.now }
     ensures { Leads result (count_said line numbers.now) Ok }
@@ -68,7 +68,7 @@ fn count_said(line: u32, numbers: &[u64]) -> Result<u32, SolutionFault>
     }
 }
 
-// The use on a line with these numbers, where the wires that bear the stamp were used on earlier lines.
+/// The use on a line with these numbers, where the wires that bear the stamp were used on earlier lines.
 fn use_said(
     line: u32,
     numbers: &[u64],
@@ -98,7 +98,7 @@ fn use_said(
     }
 }
 
-// Puts uses of different wires into the order of their wires.
+/// Puts uses of different wires into the order of their wires.
 fn sort_by_wire(uses: &mut [WireUse])
     requires { IsDistinct nat_eq (wires_of uses.old) }
     ensures sorted { uses.new ≡ by_wire uses.old }
@@ -107,21 +107,21 @@ fn sort_by_wire(uses: &mut [WireUse])
     uses.sort_unstable_by_key(|used| used.wire);
 }
 
-// A text that is being read, and the uses of the net that was read last.
+/// A text that is being read, and the uses of the net that was read last.
 #[derive(Drop)]
 struct Reader<'a> {
     lines: LineCursor<'a>,
-    // The numbers of the line that was read last.
+    /// The numbers of the line that was read last.
     numbers: Vec<u64>,
-    // The line that a missing line is named by.
+    /// The line that a missing line is named by.
     after: u32,
-    // For each wire of the board, the stamp of the last net that used it.
+    /// For each wire of the board, the stamp of the last net that used it.
     stamps: Vec<u32>,
     uses: Vec<WireUse>,
 }
 
 impl<'a> Reader<'a> {
-    // A reader before the first line of a text of at most 2^30 bytes.
+    /// A reader before the first line of a text of at most 2^30 bytes.
     fn new(alloc: Global, bytes: &'a [u8], wires: u32) -> Result<Reader<'a>, AllocError>
         requires { length bytes.now ≤ 2 ^ 30 }
         ensures lines { IfOk result (λ reader. reader.lines.lines ≡ lines (2 ^ 32 - 1) bytes.now) }
@@ -139,7 +139,7 @@ impl<'a> Reader<'a> {
         })
     }
 
-    // Reads the next line, unless its tokens have a fault, and answers its number.
+    /// Reads the next line, unless its tokens have a fault, and answers its number.
     fn next_line(&mut self) -> Result<u32, SolutionFault>
         requires { self.old.lines.max ≡ 2 ^ 32 - 1 }
         ensures read { Leads result (next_line self.old.after self.old.lines.lines)
@@ -164,7 +164,7 @@ impl<'a> Reader<'a> {
         }
     }
 
-    // Reads the count line of the next net, and answers how many uses the net has.
+    /// Reads the count line of the next net, and answers how many uses the net has.
     fn read_count(&mut self) -> Result<u32, SolutionFault>
         requires { self.old.lines.max ≡ 2 ^ 32 - 1 }
         ensures read { Leads result
@@ -178,7 +178,7 @@ impl<'a> Reader<'a> {
         count_said(line, &self.numbers)
     }
 
-    // Reads the next use of a net whose uses so far bear the stamp.
+    /// Reads the next use of a net whose uses so far bear the stamp.
     fn read_use(&mut self, stamp: u32) -> Result<(), SolutionFault>
         requires largest { self.old.lines.max ≡ 2 ^ 32 - 1 }
         requires marks { Marks self.old.stamps.items stamp self.old.uses.items }
@@ -199,7 +199,7 @@ impl<'a> Reader<'a> {
         Ok(())
     }
 
-    // Reads so many further uses of a net whose uses so far bear the stamp.
+    /// Reads so many further uses of a net whose uses so far bear the stamp.
     fn read_uses(&mut self, stamp: u32, count: u32) -> Result<(), SolutionFault>
         requires largest { self.old.lines.max ≡ 2 ^ 32 - 1 }
         requires marks { Marks self.old.stamps.items stamp self.old.uses.items }
@@ -216,7 +216,7 @@ impl<'a> Reader<'a> {
         Ok(())
     }
 
-    // Reads the next net, whose uses then stand in `uses`, their wires rising.
+    /// Reads the next net, whose uses then stand in `uses`, their wires rising.
     fn read_net(&mut self, stamp: u32) -> Result<(), SolutionFault>
         requires largest { self.old.lines.max ≡ 2 ^ 32 - 1 }
         requires unmarked { All (λ s. s < stamp) self.old.stamps.items }
@@ -234,7 +234,7 @@ impl<'a> Reader<'a> {
         Ok(())
     }
 
-    // Reads so many nets, the first nets of the board.
+    /// Reads so many nets, the first nets of the board.
     fn read_nets(&mut self, alloc: Global, nets: u32) -> Result<Solution, SolutionFault>
         requires largest { self.old.lines.max ≡ 2 ^ 32 - 1 }
         requires unmarked { All (λ s. s ≤ 0) self.old.stamps.items }
@@ -253,7 +253,7 @@ impl<'a> Reader<'a> {
         Ok(solution)
     }
 
-    // Tells that no line is left.
+    /// Tells that no line is left.
     fn read_end(&mut self) -> Result<(), SolutionFault>
         requires { self.old.lines.max ≡ 2 ^ 32 - 1 }
         ensures { (wires : ℕ) → Leads result

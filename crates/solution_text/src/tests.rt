@@ -8,7 +8,7 @@ use std::test::Fail;
 use tdm_desk::{Desk, DeskFault, MemoryDesk, OutSlot};
 use tdm_problem::{MAX_NETS, Problem, ProblemDraft, Solution, Wire, WireUse};
 
-// Two FPGAs with two wires between them, and a net on both.
+/// Two FPGAs with two wires between them, and a net on both.
 fn board(alloc: Global) -> Result<Problem, Fail> {
     let mut draft = ProblemDraft::new(alloc, 2);
     draft.push_wire(Wire { a: 0, b: 1 })?;
@@ -18,7 +18,7 @@ fn board(alloc: Global) -> Result<Problem, Fail> {
     Ok(draft.into_problem())
 }
 
-// What is read, if the text isn't far too long.
+/// What is read, if the text isn't far too long.
 fn read(
     rt: &impl Abort,
     alloc: Global,
@@ -99,7 +99,7 @@ fn write_file<D: Desk>(desk: &mut D, solution: &Solution) -> Result<(), DeskFaul
     Ok(())
 }
 
-// A desk in memory with the file of the solution.
+/// A desk in memory with the file of the solution.
 fn written(alloc: Global, solution: &Solution) -> Result<MemoryDesk, Fail> {
     let mut desk = MemoryDesk::new(alloc);
     write_file(&mut desk, solution)?;

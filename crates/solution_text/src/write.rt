@@ -37,7 +37,7 @@ pub fn write_solution<D: Desk>(
     Ok(())
 }
 
-// Adds the line of a use to the text.
+/// Adds the line of a use to the text.
 fn put_use<D: Desk>(
     desk: &mut D,
     slot: OutSlot,
@@ -58,7 +58,7 @@ fn put_use<D: Desk>(
     Ok(())
 }
 
-// Adds the lines of uses to the text.
+/// Adds the lines of uses to the text.
 fn put_uses<D: Desk>(
     desk: &mut D,
     slot: OutSlot,
@@ -80,7 +80,7 @@ fn put_uses<D: Desk>(
     Ok(())
 }
 
-// Adds the lines of a net to the text.
+/// Adds the lines of a net to the text.
 fn put_net<D: Desk>(
     desk: &mut D,
     slot: OutSlot,
@@ -101,7 +101,7 @@ fn put_net<D: Desk>(
     Ok(())
 }
 
-// Adds the lines of all nets to the text.
+/// Adds the lines of all nets to the text.
 fn put_nets<D: Desk>(
     desk: &mut D,
     slot: OutSlot,

@@ -168,7 +168,7 @@ share-floor board cert best floor is = by best.better
     by (inl hop) = omega (arith, best.is_share.only_floor floor is, ap (bound_of board) hop.0, hop.1)
     by (inr share) = omega (arith, best.is_share.only_floor floor is, ap (bound_of board) share.0)
 
-pub route-written : (before after : Seen) (name solution cert : Name) (files : Files) → files_of before ≡ Some files → RouteEnds before after name solution cert status.Ok → IsSettled before after → IsRouted files name solution cert before after
+pub route-written : (before after : Seen) (name solution cert : Name) (files : Files) → files_of before ≡ Some files → RouteEnds before after name solution cert status.Ok → IsSettled after → IsRouted files name solution cert before after
 route-written before after name solution cert files told (inl ends) settled = absurd ends
 route-written before after name solution cert files told (inr (board, is, inl obstacle)) settled = absurd obstacle
 route-written before after name solution cert files told (inr (board, is, inr (routing, proof, baseline, best, changes))) settled = record {

@@ -8,16 +8,24 @@ use Rattle.tdm_desk.specs.Slots.{input_place, output_place}
 use Rattle.tdm_desk.specs.Files.{Bytes, Name}
 use Rattle.tdm_desk.specs.Seen.{Seen, opened, input_closed, taken, created, written, output_closed, said, rest_of, output_is_open, input_is_open}
 use Rattle.tdm_desk.proofs.SeenLaws.{input_is_open-opened_other, input_is_open-input_closed_other, input_is_open-taken, rest-opened_other, rest-input_closed_other, rest-taken_other, output_is_open-opened, output_is_open-input_closed, output_is_open-taken, input_is_open-created, input_is_open-written, input_is_open-output_closed, input_is_open-said, rest-created, rest-written, rest-output_closed, rest-said, output_is_open-said, output_is_open-output_closed, output_is_open-closed_other, output_is_open-written, output_is_open-created_other}
-use Rattle.tdm_cli.specs.Settled.{IsReadOut, KeepsInput, KeepsInputs, KeepsOutputs, KeepsOtherOutputs, TouchesOnly, IsFinished, IsSettled, HasReadBoth}
+use Rattle.tdm_cli.specs.Settled.{IsReadOut, KeepsInput, KeepsInputs, KeepsOutputs, KeepsOtherOutputs, KeepsSlots, TouchesOnly, TouchesRouteSlots, TouchesJudgeSlots, IsClosed, IsSettled, HasReadBoth}
 
-pub inputs-said : (bytes : Bytes) (before after : Seen) → after ≡ said bytes before → KeepsInputs before after
-inputs-said bytes before after is = λ slot. record {
-  opens = ap (input_is_open slot) is ∙ input_is_open-said slot bytes before;
-  rest = ap (rest_of slot) is ∙ rest-said slot bytes before;
+-- nothing was done
+pub slots-same : (before after : Seen) → after ≡ before → KeepsSlots before after
+slots-same before after is = record {
+  inputs = λ slot. record { opens = ap (input_is_open slot) is; rest = ap (rest_of slot) is };
+  outputs = λ slot. ap (output_is_open slot) is;
 }
 
-pub outputs-said : (bytes : Bytes) (before after : Seen) → after ≡ said bytes before → KeepsOutputs before after
-outputs-said bytes before after is = λ slot. ap (output_is_open slot) is ∙ output_is_open-said slot bytes before
+-- something was said
+pub slots-said : (bytes : Bytes) (before after : Seen) → after ≡ said bytes before → KeepsSlots before after
+slots-said bytes before after is = record {
+  inputs = λ slot. record {
+    opens = ap (input_is_open slot) is ∙ input_is_open-said slot bytes before;
+    rest = ap (rest_of slot) is ∙ rest-said slot bytes before;
+  };
+  outputs = λ slot. ap (output_is_open slot) is ∙ output_is_open-said slot bytes before;
+}
 
 -- an input that is closed is the only slot that is touched
 pub touches-input_closed : (input : InSlot) (before after : Seen) → after ≡ input_closed input before → TouchesOnly input before after
@@ -39,14 +47,14 @@ touches-taken input name count before between after first second = record {
   outputs = λ slot. ap (output_is_open slot) second ∙ output_is_open-taken slot input count between ∙ ap (output_is_open slot) first ∙ output_is_open-opened slot input name before;
 }
 
--- what then leaves all inputs and outputs touches no more
-pub touches-then : (input : InSlot) (before between after : Seen) → TouchesOnly input before between → KeepsInputs between after → KeepsOutputs between after → TouchesOnly input before after
-touches-then input before between after touched inputs outputs = record {
+-- what then leaves the slots as they are touches no more
+pub touches-then : (input : InSlot) (before between after : Seen) → TouchesOnly input before between → KeepsSlots between after → TouchesOnly input before after
+touches-then input before between after touched kept = record {
   inputs = λ slot apart. record {
-    opens = (inputs slot).opens ∙ (touched.inputs slot apart).opens;
-    rest = (inputs slot).rest ∙ (touched.inputs slot apart).rest;
+    opens = (kept.inputs slot).opens ∙ (touched.inputs slot apart).opens;
+    rest = (kept.inputs slot).rest ∙ (touched.inputs slot apart).rest;
   };
-  outputs = λ slot. outputs slot ∙ touched.outputs slot;
+  outputs = λ slot. kept.outputs slot ∙ touched.outputs slot;
 }
 
 pub inputs-output_closed : (out : OutSlot) (before after : Seen) → after ≡ output_closed out before → KeepsInputs before after
@@ -67,11 +75,8 @@ inputs-twice before between after first second = λ slot. record {
   rest = (second slot).rest ∙ (first slot).rest;
 }
 
-pub closed-finished : (out : OutSlot) (before after : Seen) → after ≡ output_closed out before → IsFinished out after
-closed-finished out before after is = ap (output_is_open out) is ∙ output_is_open-output_closed out before
-
-pub still-finished : (out : OutSlot) (before after : Seen) → IsFinished out before → KeepsOutputs before after → IsFinished out after
-still-finished out before after finished kept = kept out ∙ finished
+pub closed-after : (out : OutSlot) (before after : Seen) → after ≡ output_closed out before → IsClosed out after
+closed-after out before after is = ap (output_is_open out) is ∙ output_is_open-output_closed out before
 
 pub others-closed : (out : OutSlot) (before after : Seen) → after ≡ output_closed out before → KeepsOtherOutputs out before after
 others-closed out before after is = λ slot apart. ap (output_is_open slot) is ∙ output_is_open-closed_other slot out before apart
@@ -96,7 +101,10 @@ second-third : output_place Out1 ≡ output_place Out2 → ⊥
 unfolding output_place
 second-third same = cc
 
--- the third output is open where it was after the first two were used
+-- the third output is open where it was after the first was used, and after both were
+pub third-kept-first : (before after : Seen) → KeepsOtherOutputs Out0 before after → output_is_open Out2 after ≡ output_is_open Out2 before
+third-kept-first before after first = first Out2 first-third
+
 pub third-kept : (before between after : Seen) → KeepsOtherOutputs Out0 before between → KeepsOtherOutputs Out1 between after → output_is_open Out2 after ≡ output_is_open Out2 before
 third-kept before between after first second = second Out2 second-third ∙ first Out2 first-third
 
@@ -121,10 +129,15 @@ unfolding input_place
 second-other same = cc
 
 -- the board was read and then the second input
-pub read-both : (before between after : Seen) → TouchesOnly In0 before between → IsReadOut In0 between → TouchesOnly In1 between after → IsReadOut In1 after → HasReadBoth before after
-read-both before between after first board then second = record {
+pub read-both : (between after : Seen) → IsReadOut In0 between → TouchesOnly In1 between after → IsReadOut In1 after → HasReadBoth after
+read-both between after board then second = record {
   board = still-read-out In0 between after (then.inputs In0 inputs-apart) board;
   second = second;
+}
+
+-- first one input was touched, and then the other
+pub judge-slots : (before between after : Seen) → TouchesOnly In0 before between → TouchesOnly In1 between after → TouchesJudgeSlots before after
+judge-slots before between after first then = record {
   third = record {
     opens = (then.inputs In2 second-other).opens ∙ (first.inputs In2 first-other).opens;
     rest = (then.inputs In2 second-other).rest ∙ (first.inputs In2 first-other).rest;
@@ -132,15 +145,28 @@ read-both before between after first board then second = record {
   outputs = λ slot. then.outputs slot ∙ first.outputs slot;
 }
 
+-- the first input alone was touched
+pub judge-slots-first : (before after : Seen) → TouchesOnly In0 before after → TouchesJudgeSlots before after
+judge-slots-first before after first = record { third = first.inputs In2 first-other; outputs = first.outputs }
+
 -- the board was read, and then both outputs were written
-pub all-settled : (before between after : Seen) → TouchesOnly In0 before between → IsReadOut In0 between → KeepsInputs between after → IsFinished Out0 after × IsFinished Out1 after → output_is_open Out2 after ≡ output_is_open Out2 between → IsSettled before after
-all-settled before between after first board kept finished third = record {
+pub all-settled : (between after : Seen) → IsReadOut In0 between → KeepsInputs between after → IsClosed Out0 after × IsClosed Out1 after → IsSettled after
+all-settled between after board kept closed = record {
   board = still-read-out In0 between after (kept In0) board;
+  solution = closed.0;
+  cert = closed.1;
+}
+
+-- the first input was touched, and then the first two outputs
+pub route-slots : (before between after : Seen) → TouchesOnly In0 before between → KeepsInputs between after → output_is_open Out2 after ≡ output_is_open Out2 between → TouchesRouteSlots before after
+route-slots before between after first kept third = record {
   inputs = λ slot apart. record {
     opens = (kept slot).opens ∙ (first.inputs slot apart).opens;
     rest = (kept slot).rest ∙ (first.inputs slot apart).rest;
   };
-  solution = finished.0;
-  cert = finished.1;
   third = third ∙ first.outputs Out2;
 }
+
+-- the first input alone was touched
+pub route-slots-first : (before after : Seen) → TouchesOnly In0 before after → TouchesRouteSlots before after
+route-slots-first before after first = record { inputs = first.inputs; third = first.outputs Out2 }

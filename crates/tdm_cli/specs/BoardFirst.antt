@@ -10,7 +10,7 @@ use Rattle.tdm_cli.specs.Settled.{TouchesOnly}
 use Rattle.tdm_cli.specs.Ends.{BoardInputEnds}
 use Rattle.tdm_cli.specs.Promises.{Describes, BoardCallsFor}
 
--- the board was not had, and no other input and no output was touched; or it was had, and the run with it came to this end
+-- the board was not had, and all but the first input is as it was; or it was had, and the run with it came to this end
 abbrev pub BoardFirstEnds : (before after : Seen) → Name → (Board → Status → Type 0) → Status → Type 0
 BoardFirstEnds before after name Ends answer =
     (BoardInputEnds before after name answer × TouchesOnly In0 before after)

@@ -87,4 +87,4 @@ pub record IsRouted (files : Files) (name solution cert : Name) (before after : 
   pub cert_reads_back : cert_of board (cert_text proof) ≡ Ok proof
   pub told : said_of after
       ≡ option_map (λ s. s ++ route_report (value_of board routing) (bound_of board proof)) (said_of before)
-  pub settled : IsSettled before after
+  pub settled : IsSettled after

@@ -36,26 +36,37 @@ abbrev pub KeepsOtherOutputs : OutSlot → Seen → Seen → Type 0
 KeepsOtherOutputs out before after = (slot : OutSlot) → (output_place out ≡ output_place slot → ⊥)
     → output_is_open slot after ≡ output_is_open slot before
 
--- no other input and no output was opened, closed or read from
+-- the inputs and outputs are as they were
+pub record KeepsSlots (before after : Seen) : Type 0 where
+  pub inputs : KeepsInputs before after
+  pub outputs : KeepsOutputs before after
+
+-- the outputs, and the inputs but this one, are as they were
 pub record TouchesOnly (slot : InSlot) (before after : Seen) : Type 0 where
   pub inputs : KeepsOtherInputs slot before after
   pub outputs : KeepsOutputs before after
 
--- this output is finished
-abbrev pub IsFinished : OutSlot → Seen → Type 0
-IsFinished slot seen = IsFalse (output_is_open slot seen)
-
--- the first input was read to its end, the first two outputs are finished, and the others were not touched
-pub record IsSettled (before after : Seen) : Type 0 where
-  pub board : IsReadOut In0 after
+-- all but the first input and the first two outputs are as they were
+pub record TouchesRouteSlots (before after : Seen) : Type 0 where
   pub inputs : KeepsOtherInputs In0 before after
-  pub solution : IsFinished Out0 after
-  pub cert : IsFinished Out1 after
   pub third : output_is_open Out2 after ≡ output_is_open Out2 before
 
--- the first two inputs were read to their ends, and neither the third nor any output was touched
-pub record HasReadBoth (before after : Seen) : Type 0 where
-  pub board : IsReadOut In0 after
-  pub second : IsReadOut In1 after
+-- all but the first two inputs are as they were
+pub record TouchesJudgeSlots (before after : Seen) : Type 0 where
   pub third : KeepsInput before after In2
   pub outputs : KeepsOutputs before after
+
+-- this output is closed
+abbrev pub IsClosed : OutSlot → Seen → Type 0
+IsClosed slot seen = IsFalse (output_is_open slot seen)
+
+-- the first input was read to its end, and the first two outputs are closed
+pub record IsSettled (after : Seen) : Type 0 where
+  pub board : IsReadOut In0 after
+  pub solution : IsClosed Out0 after
+  pub cert : IsClosed Out1 after
+
+-- the first two inputs were read to their ends
+pub record HasReadBoth (after : Seen) : Type 0 where
+  pub board : IsReadOut In0 after
+  pub second : IsReadOut In1 after

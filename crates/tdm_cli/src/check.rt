@@ -8,7 +8,7 @@ ghost use Rattle.bound_cert.specs.Certificate.{Cert, IsCertFor};
 ghost use Rattle.cert_checker.specs.Answer.{IsAnswer};
 ghost use Rattle.tdm_cli.specs.Change.{Says};
 ghost use Rattle.tdm_cli.specs.Saying.{ReportsReadFault};
-ghost use Rattle.tdm_cli.specs.Settled.{IsReadOut, KeepsInputs, KeepsOutputs, TouchesOnly, HasReadBoth};
+ghost use Rattle.tdm_cli.specs.Settled.{IsReadOut, KeepsSlots, TouchesOnly, TouchesJudgeSlots, HasReadBoth};
 ghost use Rattle.tdm_cli.specs.CheckEnds.{status_of, AnswerEnds, CheckingEnds, CheckEnds};
 ghost use Rattle.tdm_cli.specs.declared.status.Status.TheVariants.{Ok, ReadFault, WriteFault};
 
@@ -37,8 +37,7 @@ fn status(answer: CheckAnswer) -> Status
 fn say_answer<D: Desk>(alloc: Global, desk: &mut D, answer: CheckAnswer) -> Status
     ensures ends { (before : Seen) (board : Board) (cert : Cert) → Says before (D.seen desk.old) []
         → IsAnswer board cert answer → AnswerEnds before (D.seen desk.new) board cert result }
-    ensures inputs { KeepsInputs (D.seen desk.old) (D.seen desk.new) }
-    ensures outputs { KeepsOutputs (D.seen desk.old) (D.seen desk.new) }
+    ensures slots { KeepsSlots (D.seen desk.old) (D.seen desk.new) }
     ensures write_fault { result ≡ WriteFault → WritingFailed D.counts D.steady desk.old desk.new }
     ensures counted { CountsFaults D.counts D.steady desk.old desk.new }
 {
@@ -56,8 +55,7 @@ fn answer_cert<D: Desk>(
     requires { IsCertFor problem.now cert.now }
     ensures ends { (before : Seen) → Says before (D.seen desk.old) []
         → AnswerEnds before (D.seen desk.new) problem.now cert.now result }
-    ensures inputs { KeepsInputs (D.seen desk.old) (D.seen desk.new) }
-    ensures outputs { KeepsOutputs (D.seen desk.old) (D.seen desk.new) }
+    ensures slots { KeepsSlots (D.seen desk.old) (D.seen desk.new) }
     ensures write_fault { result ≡ WriteFault → WritingFailed D.counts D.steady desk.old desk.new }
     ensures counted { CountsFaults D.counts D.steady desk.old desk.new }
 {
@@ -72,7 +70,7 @@ fn check_cert<D: Desk>(alloc: Global, desk: &mut D, problem: &Problem, cert: &st
     ensures ends { (before : Seen) → Says before (D.seen desk.old) []
         → CheckingEnds before (D.seen desk.new) problem.now cert.now result }
     ensures read { result ≡ Ok → IsReadOut In1 (D.seen desk.new) }
-    ensures others { result ≡ Ok → TouchesOnly In1 (D.seen desk.old) (D.seen desk.new) }
+    ensures others { TouchesOnly In1 (D.seen desk.old) (D.seen desk.new) }
     ensures read_fault { result ≡ ReadFault →
         ReadingFailed D.counts D.steady In1 desk.old desk.new }
     ensures write_fault { result ≡ WriteFault → WritingFailed D.counts D.steady desk.old desk.new }
@@ -88,7 +86,8 @@ fn check_cert<D: Desk>(alloc: Global, desk: &mut D, problem: &Problem, cert: &st
 /// pair.
 pub fn check<D: Desk>(alloc: Global, desk: &mut D, board: &str, cert: &str) -> Status
     ensures ends { CheckEnds (D.seen desk.old) (D.seen desk.new) board.now cert.now result }
-    ensures read { result ≡ Ok → HasReadBoth (D.seen desk.old) (D.seen desk.new) }
+    ensures read { result ≡ Ok → HasReadBoth (D.seen desk.new) }
+    ensures slots { TouchesJudgeSlots (D.seen desk.old) (D.seen desk.new) }
     ensures read_fault { result ≡ ReadFault →
         ReportsReadFault D.counts D.steady D.seen desk.old desk.new }
     ensures write_fault { result ≡ WriteFault → WritingFailed D.counts D.steady desk.old desk.new }

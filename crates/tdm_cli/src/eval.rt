@@ -9,7 +9,7 @@ ghost use Rattle.tdm_problem.specs.Legal.{IsLegal};
 ghost use Rattle.solution_eval.specs.Verdict.{IsVerdict, SaysLegal};
 ghost use Rattle.tdm_cli.specs.Change.{Says};
 ghost use Rattle.tdm_cli.specs.Saying.{ReportsReadFault};
-ghost use Rattle.tdm_cli.specs.Settled.{IsReadOut, KeepsInputs, KeepsOutputs, TouchesOnly, HasReadBoth};
+ghost use Rattle.tdm_cli.specs.Settled.{IsReadOut, KeepsSlots, TouchesOnly, TouchesJudgeSlots, HasReadBoth};
 ghost use Rattle.tdm_cli.specs.EvalEnds.{status_of, VerdictEnds, JudgingEnds, EvalEnds};
 ghost use Rattle.tdm_cli.specs.declared.status.Status.TheVariants.{Ok, ReadFault, WriteFault};
 
@@ -40,8 +40,7 @@ fn say_verdict<D: Desk>(alloc: Global, desk: &mut D, verdict: &Verdict) -> Statu
     ensures ends { (before : Seen) (board : Board) (routing : Routing) → Says before (D.seen desk.old) []
         → IsVerdict board routing verdict.now → (SaysLegal verdict.now ↔ IsLegal board routing)
         → VerdictEnds before (D.seen desk.new) board routing result }
-    ensures inputs { KeepsInputs (D.seen desk.old) (D.seen desk.new) }
-    ensures outputs { KeepsOutputs (D.seen desk.old) (D.seen desk.new) }
+    ensures slots { KeepsSlots (D.seen desk.old) (D.seen desk.new) }
     ensures write_fault { result ≡ WriteFault → WritingFailed D.counts D.steady desk.old desk.new }
     ensures counted { CountsFaults D.counts D.steady desk.old desk.new }
 {
@@ -59,8 +58,7 @@ fn judge_solution<D: Desk>(
     requires { IsFor problem.now solution.now }
     ensures ends { (before : Seen) → Says before (D.seen desk.old) []
         → VerdictEnds before (D.seen desk.new) problem.now solution.now result }
-    ensures inputs { KeepsInputs (D.seen desk.old) (D.seen desk.new) }
-    ensures outputs { KeepsOutputs (D.seen desk.old) (D.seen desk.new) }
+    ensures slots { KeepsSlots (D.seen desk.old) (D.seen desk.new) }
     ensures write_fault { result ≡ WriteFault → WritingFailed D.counts D.steady desk.old desk.new }
     ensures counted { CountsFaults D.counts D.steady desk.old desk.new }
 {
@@ -75,7 +73,7 @@ fn eval_solution<D: Desk>(alloc: Global, desk: &mut D, problem: &Problem, soluti
     ensures ends { (before : Seen) → Says before (D.seen desk.old) []
         → JudgingEnds before (D.seen desk.new) problem.now solution.now result }
     ensures read { result ≡ Ok → IsReadOut In1 (D.seen desk.new) }
-    ensures others { result ≡ Ok → TouchesOnly In1 (D.seen desk.old) (D.seen desk.new) }
+    ensures others { TouchesOnly In1 (D.seen desk.old) (D.seen desk.new) }
     ensures read_fault { result ≡ ReadFault →
         ReadingFailed D.counts D.steady In1 desk.old desk.new }
     ensures write_fault { result ≡ WriteFault → WritingFailed D.counts D.steady desk.old desk.new }
@@ -90,7 +88,8 @@ fn eval_solution<D: Desk>(alloc: Global, desk: &mut D, problem: &Problem, soluti
 /// Reads the board and then the solution, and says whether the solution is legal: its value, or its first violation.
 pub fn eval<D: Desk>(alloc: Global, desk: &mut D, board: &str, solution: &str) -> Status
     ensures ends { EvalEnds (D.seen desk.old) (D.seen desk.new) board.now solution.now result }
-    ensures read { result ≡ Ok → HasReadBoth (D.seen desk.old) (D.seen desk.new) }
+    ensures read { result ≡ Ok → HasReadBoth (D.seen desk.new) }
+    ensures slots { TouchesJudgeSlots (D.seen desk.old) (D.seen desk.new) }
     ensures read_fault { result ≡ ReadFault →
         ReportsReadFault D.counts D.steady D.seen desk.old desk.new }
     ensures write_fault { result ≡ WriteFault → WritingFailed D.counts D.steady desk.old desk.new }

@@ -6,7 +6,7 @@ ghost use Rattle.tdm_desk.specs.Counts.{CountsFaults, WritingFailed};
 ghost use Rattle.tdm_problem.specs.Board.{Board};
 ghost use Rattle.tdm_cli.specs.Change.{Says};
 ghost use Rattle.tdm_cli.specs.Input.{UnreadShows, BoardFaultShows, SolutionFaultShows, CertFaultShows};
-ghost use Rattle.tdm_cli.specs.Settled.{KeepsInputs, KeepsOutputs};
+ghost use Rattle.tdm_cli.specs.Settled.{KeepsSlots};
 ghost use Rattle.tdm_cli.specs.Obstacle.{ObstacleShows};
 ghost use Rattle.tdm_cli.specs.Ends.{UnreadEnds, BoardInputEnds, ObstacleEnds};
 ghost use Rattle.tdm_cli.specs.EvalEnds.{SolutionInputEnds};
@@ -36,8 +36,7 @@ const SECOND_PLACE: u32 = 2;
 fn refuse_unread<D: Desk>(alloc: Global, desk: &mut D, place: u32, unread: &Unread) -> Status
     ensures ends { (before : Seen) (name : Name) → Says before (D.seen desk.old) []
         → UnreadShows before name unread.now → UnreadEnds before (D.seen desk.new) place name result }
-    ensures inputs { KeepsInputs (D.seen desk.old) (D.seen desk.new) }
-    ensures outputs { KeepsOutputs (D.seen desk.old) (D.seen desk.new) }
+    ensures slots { KeepsSlots (D.seen desk.old) (D.seen desk.new) }
     ensures read_fault { result ≡ ReadFault → unread.now ≡ Failed }
     ensures write_fault { result ≡ WriteFault → WritingFailed D.counts D.steady desk.old desk.new }
     ensures counted { CountsFaults D.counts D.steady desk.old desk.new }
@@ -57,8 +56,7 @@ pub fn refuse_board<D: Desk>(
 ) -> Status
     ensures ends { (before : Seen) (board : Name) → Says before (D.seen desk.old) []
         → BoardFaultShows before board fault.now → BoardInputEnds before (D.seen desk.new) board result }
-    ensures inputs { KeepsInputs (D.seen desk.old) (D.seen desk.new) }
-    ensures outputs { KeepsOutputs (D.seen desk.old) (D.seen desk.new) }
+    ensures slots { KeepsSlots (D.seen desk.old) (D.seen desk.new) }
     ensures read_fault { result ≡ ReadFault → fault.now ≡ NotRead Failed }
     ensures write_fault { result ≡ WriteFault → WritingFailed D.counts D.steady desk.old desk.new }
     ensures counted { CountsFaults D.counts D.steady desk.old desk.new }
@@ -81,6 +79,7 @@ pub fn refuse_solution<D: Desk>(
     ensures ends { (before : Seen) (board : Board) (solution : Name) → Says before (D.seen desk.old) []
         → SolutionFaultShows before solution board fault.now
         → SolutionInputEnds before (D.seen desk.new) board solution result }
+    ensures slots { KeepsSlots (D.seen desk.old) (D.seen desk.new) }
     ensures read_fault { result ≡ ReadFault → fault.now ≡ NotRead Failed }
     ensures write_fault { result ≡ WriteFault → WritingFailed D.counts D.steady desk.old desk.new }
     ensures counted { CountsFaults D.counts D.steady desk.old desk.new }
@@ -99,6 +98,7 @@ pub fn refuse_cert<D: Desk>(alloc: Global, desk: &mut D, fault: &InputFault<Cert
     ensures ends { (before : Seen) (board : Board) (cert : Name) → Says before (D.seen desk.old) []
         → CertFaultShows before cert board fault.now
         → CertInputEnds before (D.seen desk.new) board cert result }
+    ensures slots { KeepsSlots (D.seen desk.old) (D.seen desk.new) }
     ensures read_fault { result ≡ ReadFault → fault.now ≡ NotRead Failed }
     ensures write_fault { result ≡ WriteFault → WritingFailed D.counts D.steady desk.old desk.new }
     ensures counted { CountsFaults D.counts D.steady desk.old desk.new }
@@ -116,6 +116,7 @@ pub fn refuse_cert<D: Desk>(alloc: Global, desk: &mut D, fault: &InputFault<Cert
 pub fn refuse_nets<D: Desk>(alloc: Global, desk: &mut D, obstacle: &Obstacle) -> Status
     ensures ends { (before : Seen) (board : Board) → Says before (D.seen desk.old) []
         → ObstacleShows board obstacle.now → ObstacleEnds before (D.seen desk.new) board result }
+    ensures slots { KeepsSlots (D.seen desk.old) (D.seen desk.new) }
     ensures write_fault { result ≡ WriteFault → WritingFailed D.counts D.steady desk.old desk.new }
     ensures counted { CountsFaults D.counts D.steady desk.old desk.new }
 {

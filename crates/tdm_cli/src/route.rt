@@ -8,7 +8,7 @@ ghost use Rattle.tdm_problem.specs.Value.{value_of};
 ghost use Rattle.bound_cert.specs.Bound.{bound_of};
 ghost use Rattle.tdm_cli.specs.Change.{Says};
 ghost use Rattle.tdm_cli.specs.Reports.{route_report};
-ghost use Rattle.tdm_cli.specs.Settled.{KeepsInputs, IsFinished, IsSettled};
+ghost use Rattle.tdm_cli.specs.Settled.{KeepsInputs, IsClosed, IsSettled, TouchesRouteSlots};
 ghost use Rattle.tdm_cli.specs.Baseline.{IsBaseline};
 ghost use Rattle.tdm_cli.specs.Certified.{IsBestCert};
 ghost use Rattle.tdm_cli.specs.Obstacle.{ObstacleShows};
@@ -68,10 +68,9 @@ fn route_nets<D: Desk>(
 ) -> Status
     ensures ends { (before : Seen) → Says before (D.seen desk.old) []
         → NetsEnds before (D.seen desk.new) problem.now solution.now cert.now result }
-    ensures inputs { result ≡ Ok → KeepsInputs (D.seen desk.old) (D.seen desk.new) }
-    ensures finished { result ≡ Ok → IsFinished Out0 (D.seen desk.new) × IsFinished Out1 (D.seen desk.new) }
-    ensures third { result ≡ Ok → output_is_open Out2 (D.seen desk.new)
-        ≡ output_is_open Out2 (D.seen desk.old) }
+    ensures inputs { KeepsInputs (D.seen desk.old) (D.seen desk.new) }
+    ensures closed { result ≡ Ok → IsClosed Out0 (D.seen desk.new) × IsClosed Out1 (D.seen desk.new) }
+    ensures third { output_is_open Out2 (D.seen desk.new) ≡ output_is_open Out2 (D.seen desk.old) }
     ensures write_fault { result ≡ WriteFault → WritingFailed D.counts D.steady desk.old desk.new }
     ensures counted { CountsFaults D.counts D.steady desk.old desk.new }
 {
@@ -98,7 +97,8 @@ pub fn route<D: Desk>(
     cert: &str,
 ) -> Status
     ensures ends { RouteEnds (D.seen desk.old) (D.seen desk.new) board.now solution.now cert.now result }
-    ensures settled { result ≡ Ok → IsSettled (D.seen desk.old) (D.seen desk.new) }
+    ensures settled { result ≡ Ok → IsSettled (D.seen desk.new) }
+    ensures slots { TouchesRouteSlots (D.seen desk.old) (D.seen desk.new) }
     ensures read_fault { result ≡ ReadFault →
         ReadingFailed D.counts D.steady In0 desk.old desk.new }
     ensures write_fault { result ≡ WriteFault → WritingFailed D.counts D.steady desk.old desk.new }

@@ -2,7 +2,7 @@
 ghost use Rattle.std.specs.Prelude.{◌≡◌, IfOk, IfErr};
 ghost use Rattle.tdm_desk.specs.Counts.{CountsFaults};
 ghost use Rattle.tdm_cli.specs.Saying.{Concludes};
-ghost use Rattle.tdm_cli.specs.Settled.{KeepsInputs, KeepsOutputs};
+ghost use Rattle.tdm_cli.specs.Settled.{KeepsSlots};
 ghost use Rattle.tdm_cli.specs.declared.status.Status.TheVariants.{OutOfMemory};
 
 use crate::status::Status;
@@ -12,8 +12,7 @@ use tdm_desk::{Desk, DeskFault, say_whole};
 /// Says the report and answers the status, or how saying it failed. A part of the report may have been said then.
 pub fn conclude<D: Desk>(desk: &mut D, report: &[u8], status: Status) -> Status
     ensures ends { Concludes D.counts D.steady D.seen desk.old desk.new report.now status result }
-    ensures inputs { KeepsInputs (D.seen desk.old) (D.seen desk.new) }
-    ensures outputs { KeepsOutputs (D.seen desk.old) (D.seen desk.new) }
+    ensures slots { KeepsSlots (D.seen desk.old) (D.seen desk.new) }
     ensures counted { CountsFaults D.counts D.steady desk.old desk.new }
 {
     match say_whole(desk, report) {
@@ -33,8 +32,7 @@ pub fn conclude_with<D: Desk>(
         text.items status result) }
     ensures answer { IfErr report (λ _. result ≡ OutOfMemory) }
     ensures same { IfErr report (λ _. D.seen desk.new ≡ D.seen desk.old) }
-    ensures inputs { KeepsInputs (D.seen desk.old) (D.seen desk.new) }
-    ensures outputs { KeepsOutputs (D.seen desk.old) (D.seen desk.new) }
+    ensures slots { KeepsSlots (D.seen desk.old) (D.seen desk.new) }
     ensures counted { CountsFaults D.counts D.steady desk.old desk.new }
 {
     match report {

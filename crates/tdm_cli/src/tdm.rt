@@ -9,7 +9,7 @@ ghost use Rattle.solution_eval.specs.declared.judgement.Verdict.TheVariants.{Leg
 ghost use Rattle.solution_eval.specs.Verdict.{SaysLegal};
 ghost use Rattle.tdm_cli.specs.Words.{IsRoute, IsEval, IsCheck, IsCommand};
 ghost use Rattle.tdm_cli.specs.Saying.{ReportsReadFault};
-ghost use Rattle.tdm_cli.specs.Settled.{IsSettled, HasReadBoth};
+ghost use Rattle.tdm_cli.specs.Settled.{KeepsSlots, TouchesRouteSlots, TouchesJudgeSlots, IsSettled, HasReadBoth};
 ghost use Rattle.tdm_cli.specs.Ends.{UsageEnds, RouteEnds};
 ghost use Rattle.tdm_cli.specs.EvalEnds.{EvalEnds};
 ghost use Rattle.tdm_cli.specs.CheckEnds.{CheckEnds};
@@ -37,14 +37,21 @@ fn run_words<D: Desk>(alloc: Global, desk: &mut D, words: &[String]) -> Status
     ensures eval { (board solution : Name) → IsEval (map string_bytes words.now) board solution
         → EvalEnds (D.seen desk.old) (D.seen desk.new) board solution result }
     ensures settled { (board solution cert : Name) → IsRoute (map string_bytes words.now) board solution cert
-        → result ≡ Ok → IsSettled (D.seen desk.old) (D.seen desk.new) }
+        → result ≡ Ok → IsSettled (D.seen desk.new) }
     ensures check { (board cert : Name) → IsCheck (map string_bytes words.now) board cert
         → CheckEnds (D.seen desk.old) (D.seen desk.new) board cert result }
     ensures eval_read { (board solution : Name) → IsEval (map string_bytes words.now) board solution
-        → result ≡ Ok → HasReadBoth (D.seen desk.old) (D.seen desk.new) }
+        → result ≡ Ok → HasReadBoth (D.seen desk.new) }
     ensures check_read { (board cert : Name) → IsCheck (map string_bytes words.now) board cert
-        → result ≡ Ok → HasReadBoth (D.seen desk.old) (D.seen desk.new) }
+        → result ≡ Ok → HasReadBoth (D.seen desk.new) }
     ensures usage { result ≡ Usage → ¬ IsCommand (map string_bytes words.now) }
+    ensures usage_slots { ¬ IsCommand (map string_bytes words.now) → KeepsSlots (D.seen desk.old) (D.seen desk.new) }
+    ensures route_slots { (board solution cert : Name) → IsRoute (map string_bytes words.now) board solution cert
+        → TouchesRouteSlots (D.seen desk.old) (D.seen desk.new) }
+    ensures eval_slots { (board solution : Name) → IsEval (map string_bytes words.now) board solution
+        → TouchesJudgeSlots (D.seen desk.old) (D.seen desk.new) }
+    ensures check_slots { (board cert : Name) → IsCheck (map string_bytes words.now) board cert
+        → TouchesJudgeSlots (D.seen desk.old) (D.seen desk.new) }
     ensures read_fault { result ≡ ReadFault →
         ReportsReadFault D.counts D.steady D.seen desk.old desk.new }
     ensures route_read_fault { (board solution cert : Name)
@@ -81,6 +88,15 @@ pub fn tdm<D: Desk>(alloc: Global, desk: &mut D, words: &[String]) -> Status
         → CheckEnds (D.seen desk.old) (D.seen desk.new) board cert result }
     ensures usage { result ≡ Usage → ¬ IsCommand (map string_bytes words.now) }
 
+    // Whatever the status, a command touches none but its own inputs and outputs, and words that are no command touch none.
+    ensures usage_slots { ¬ IsCommand (map string_bytes words.now) → KeepsSlots (D.seen desk.old) (D.seen desk.new) }
+    ensures route_slots { (board solution cert : Name) → IsRoute (map string_bytes words.now) board solution cert
+        → TouchesRouteSlots (D.seen desk.old) (D.seen desk.new) }
+    ensures eval_slots { (board solution : Name) → IsEval (map string_bytes words.now) board solution
+        → TouchesJudgeSlots (D.seen desk.old) (D.seen desk.new) }
+    ensures check_slots { (board cert : Name) → IsCheck (map string_bytes words.now) board cert
+        → TouchesJudgeSlots (D.seen desk.old) (D.seen desk.new) }
+
     // Faults of the outside are shown by the desk's own counts; over a steady desk there are none. A read fault is
     // reported of the input whose count rose; `route` has one input alone.
     ensures read_fault { result ≡ ReadFault →
@@ -113,7 +129,7 @@ pub fn tdm<D: Desk>(alloc: Global, desk: &mut D, words: &[String]) -> Status
         → files_of (D.seen desk.old) ≡ Some files → result ≡ Ok
         → IsRouted files board solution cert (D.seen desk.old) (D.seen desk.new) }
     ensures settled { (board solution cert : Name) → IsRoute (map string_bytes words.now) board solution cert
-        → result ≡ Ok → IsSettled (D.seen desk.old) (D.seen desk.new) }
+        → result ≡ Ok → IsSettled (D.seen desk.new) }
 
     // The same of `eval`, which changes no file: Ok just where the solution is legal, and then its value is said, and
     // Illegal just where it is not, and then its first violation is said.
@@ -142,7 +158,7 @@ pub fn tdm<D: Desk>(alloc: Global, desk: &mut D, words: &[String]) -> Status
         → (verdict : Verdict) × (SaysLegal verdict → ⊥)
         × IsJudged files board solution (D.seen desk.old) (D.seen desk.new) verdict }
     ensures eval_read { (board solution : Name) → IsEval (map string_bytes words.now) board solution
-        → result ≡ Ok → HasReadBoth (D.seen desk.old) (D.seen desk.new) }
+        → result ≡ Ok → HasReadBoth (D.seen desk.new) }
     ensures eval_kept { (board solution : Name) → IsEval (map string_bytes words.now) board solution
         → files_of (D.seen desk.new) ≡ files_of (D.seen desk.old) }
 
@@ -169,7 +185,7 @@ pub fn tdm<D: Desk>(alloc: Global, desk: &mut D, words: &[String]) -> Status
         → files_of (D.seen desk.old) ≡ Some files → result ≡ CertRejected
         → IsRejected files board cert (D.seen desk.old) (D.seen desk.new) }
     ensures check_read { (board cert : Name) → IsCheck (map string_bytes words.now) board cert
-        → result ≡ Ok → HasReadBoth (D.seen desk.old) (D.seen desk.new) }
+        → result ≡ Ok → HasReadBoth (D.seen desk.new) }
     ensures check_kept { (board cert : Name) → IsCheck (map string_bytes words.now) board cert
         → files_of (D.seen desk.new) ≡ files_of (D.seen desk.old) }
 

@@ -8,7 +8,7 @@ ghost use Rattle.solution_text.specs.Text.{solution_text};
 ghost use Rattle.bound_cert.specs.CertText.{cert_text};
 ghost use Rattle.tdm_cli.specs.Change.{Changes};
 ghost use Rattle.tdm_cli.specs.TwoFiles.{with_two_files};
-ghost use Rattle.tdm_cli.specs.Settled.{KeepsInputs, KeepsOtherOutputs, IsFinished};
+ghost use Rattle.tdm_cli.specs.Settled.{KeepsInputs, KeepsOtherOutputs, IsClosed};
 ghost use Rattle.tdm_cli.specs.Ends.{MayHoldPart, MayHoldParts, DeliveryEnds};
 ghost use Rattle.tdm_cli.specs.declared.status.Status.TheVariants.{Ok, WriteFault};
 
@@ -31,7 +31,7 @@ fn write_solution_file<D: Desk>(
     ensures err { OnErr result (MayHoldPart (D.seen desk.old) (D.seen desk.new) name.now
         (solution_text solution.now)) }
     ensures inputs { KeepsInputs (D.seen desk.old) (D.seen desk.new) }
-    ensures finished { OnOk result (IsFinished Out0 (D.seen desk.new)) }
+    ensures closed { OnOk result (IsClosed Out0 (D.seen desk.new)) }
     ensures others { KeepsOtherOutputs Out0 (D.seen desk.old) (D.seen desk.new) }
     ensures failed { IsErrOf result DeskFault.Failed →
         WritingFailed D.counts D.steady desk.old desk.new }
@@ -54,7 +54,7 @@ fn write_cert_file<D: Desk>(desk: &mut D, name: &str, cert: &Certificate) -> Res
     ensures err { OnErr result (MayHoldPart (D.seen desk.old) (D.seen desk.new) name.now
         (cert_text cert.now)) }
     ensures inputs { KeepsInputs (D.seen desk.old) (D.seen desk.new) }
-    ensures finished { OnOk result (IsFinished Out1 (D.seen desk.new)) }
+    ensures closed { OnOk result (IsClosed Out1 (D.seen desk.new)) }
     ensures others { KeepsOtherOutputs Out1 (D.seen desk.old) (D.seen desk.new) }
     ensures failed { IsErrOf result DeskFault.Failed →
         WritingFailed D.counts D.steady desk.old desk.new }
@@ -84,9 +84,8 @@ fn write_files<D: Desk>(
     ensures err { OnErr result (MayHoldParts (D.seen desk.old) (D.seen desk.new)
         first.now (solution_text solution.now) second.now (cert_text cert.now)) }
     ensures inputs { KeepsInputs (D.seen desk.old) (D.seen desk.new) }
-    ensures finished { OnOk result (IsFinished Out0 (D.seen desk.new) × IsFinished Out1 (D.seen desk.new)) }
-    ensures third { OnOk result (output_is_open Out2 (D.seen desk.new)
-        ≡ output_is_open Out2 (D.seen desk.old)) }
+    ensures closed { OnOk result (IsClosed Out0 (D.seen desk.new) × IsClosed Out1 (D.seen desk.new)) }
+    ensures third { output_is_open Out2 (D.seen desk.new) ≡ output_is_open Out2 (D.seen desk.old) }
     ensures failed { IsErrOf result DeskFault.Failed →
         WritingFailed D.counts D.steady desk.old desk.new }
     ensures counted { CountsFaults D.counts D.steady desk.old desk.new }
@@ -112,9 +111,8 @@ pub fn deliver<D: Desk>(
     ensures ends { DeliveryEnds (D.seen desk.old) (D.seen desk.new) first.now (solution_text solution.now)
         second.now (cert_text cert.now) report.now result }
     ensures inputs { KeepsInputs (D.seen desk.old) (D.seen desk.new) }
-    ensures finished { result ≡ Ok → IsFinished Out0 (D.seen desk.new) × IsFinished Out1 (D.seen desk.new) }
-    ensures third { result ≡ Ok → output_is_open Out2 (D.seen desk.new)
-        ≡ output_is_open Out2 (D.seen desk.old) }
+    ensures closed { result ≡ Ok → IsClosed Out0 (D.seen desk.new) × IsClosed Out1 (D.seen desk.new) }
+    ensures third { output_is_open Out2 (D.seen desk.new) ≡ output_is_open Out2 (D.seen desk.old) }
     ensures write_fault { result ≡ WriteFault → WritingFailed D.counts D.steady desk.old desk.new }
     ensures counted { CountsFaults D.counts D.steady desk.old desk.new }
 {

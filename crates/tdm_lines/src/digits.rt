@@ -6,7 +6,7 @@ ghost use Rattle.tdm_lines.specs.Tokens.{is_number, value};
 use itoa::Buffer;
 use std::marker::Model;
 
-// The digits of `u128::MAX`.
+/// The digits of `u128::MAX`.
 const MOST_DIGITS: usize = 39;
 
 /// The decimal digits of a number, from `decimal`.
@@ -38,7 +38,7 @@ pub fn decimal(n: u128) -> Digits
 }
 
 impl Digits {
-    // A text of digits, copied.
+    /// A text of digits, copied.
     fn copy_of(text: &[u8]) -> Digits
         requires { length text.now ≤ 39 }
         ensures { result ≡ text.now }

@@ -7,15 +7,15 @@ ghost use Rattle.tdm_lines.specs.Scan.{is_token_byte, reading_of, first_tokens, 
 use crate::line::TokenFault;
 use std::alloc::AllocError;
 
-// A token: where it ends, and its number.
+/// A token: where it ends, and its number.
 #[derive(Clone, Copy)]
 struct Token {
     end: usize,
     reading: Result<u64, TokenFault>,
 }
 
-// A piece of the text: where the next one begins, whether it has a token, and what is wrong with
-// its tokens.
+/// A piece of the text: where the next one begins, whether it has a token, and what is wrong with
+/// its tokens.
 #[derive(Clone, Copy)]
 pub(crate) struct Piece {
     pub(crate) next: usize,
@@ -23,6 +23,7 @@ pub(crate) struct Piece {
     pub(crate) fault: Option<TokenFault>,
 }
 
+/// Whether the byte is part of a token: neither a blank nor a line feed.
 #[inline]
 fn is_token_byte(byte: u8) -> bool
     ensures { result ≡ is_token_byte byte }
@@ -30,6 +31,7 @@ fn is_token_byte(byte: u8) -> bool
     !matches!(byte, b'\n' | b' ' | b'\t' | b'\r')
 }
 
+/// Whether the byte is a blank: a space, a tab or a carriage return.
 #[inline]
 fn is_blank(byte: u8) -> bool
     ensures { result ≡ is_blank byte }
@@ -37,7 +39,7 @@ fn is_blank(byte: u8) -> bool
     matches!(byte, b' ' | b'\t' | b'\r')
 }
 
-// A number with one more digit.
+/// A number with one more digit.
 #[inline]
 fn with_digit(before: u64, digit: u8, max: u64) -> Result<u64, TokenFault>
     ensures fits { before * 10 + digit ≤ max → result ≡ Ok (before * 10 + digit) }
@@ -51,7 +53,7 @@ fn with_digit(before: u64, digit: u8, max: u64) -> Result<u64, TokenFault>
     }
 }
 
-// The reading of a token that has one more byte.
+/// The reading of a token that has one more byte.
 #[inline]
 fn extend(reading: Result<u64, TokenFault>, byte: u8, max: u64) -> Result<u64, TokenFault>
     ensures { (token : List ℕ) → reading ≡ reading_of max token →
@@ -66,7 +68,7 @@ fn extend(reading: Result<u64, TokenFault>, byte: u8, max: u64) -> Result<u64, T
     }
 }
 
-// The place of the first byte from `at` on that is not blank.
+/// The place of the first byte from `at` on that is not blank.
 fn skip_blanks(bytes: &[u8], at: usize) -> usize
     requires { at ≤ length bytes.now }
     ensures from { at ≤ result }
@@ -81,7 +83,7 @@ fn skip_blanks(bytes: &[u8], at: usize) -> usize
     place
 }
 
-// The token that begins at `at`.
+/// The token that begins at `at`.
 fn read_token(bytes: &[u8], at: usize, max: u64) -> Token
     requires within { at < length bytes.now }
     requires begins { IsTrue (is_token_byte (slice_index bytes.now at)) }
@@ -100,7 +102,7 @@ fn read_token(bytes: &[u8], at: usize, max: u64) -> Token
     Token { end, reading }
 }
 
-// The worse of two faults.
+/// The worse of two faults.
 fn worse(fault: Option<TokenFault>, found: TokenFault) -> TokenFault
     ensures { result ≡ worse_of fault found }
 {
@@ -110,7 +112,7 @@ fn worse(fault: Option<TokenFault>, found: TokenFault) -> TokenFault
     }
 }
 
-// Adds one token's number or fault to those of the tokens before it.
+/// Adds one token's number or fault to those of the tokens before it.
 fn add_reading(
     fault: Option<TokenFault>,
     reading: Result<u64, TokenFault>,
@@ -134,7 +136,7 @@ fn add_reading(
     }
 }
 
-// The piece that begins at `at`, with its numbers.
+/// The piece that begins at `at`, with its numbers.
 pub(crate) fn read_piece(
     bytes: &[u8],
     at: usize,

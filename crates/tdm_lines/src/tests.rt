@@ -5,7 +5,7 @@ use std::alloc::Global;
 use std::process::Abort;
 use std::test::Fail;
 
-// A line that is wanted: its number, its fault and its numbers.
+/// A line that is wanted: its number, its fault and its numbers.
 #[derive(Clone, Copy)]
 struct Wanted(u32, Option<TokenFault>, &'static [u64]);
 

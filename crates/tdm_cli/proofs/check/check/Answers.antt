@@ -1,6 +1,6 @@
 use Rattle.std.proofs.Common.{ap, inl, subst}
 use Rattle.tdm_cli.specs.Ends.{BoardInputEnds}
-use Rattle.tdm_cli.proofs.SettledLaws.{touches-then, read-both}
+use Rattle.tdm_cli.proofs.SettledLaws.{touches-then, read-both, judge-slots, judge-slots-first}
 use Rattle.std.specs.Prelude.{Err}
 use Rattle.tdm_desk.proofs.CountLaws.{reading_failed_before}
 use Rattle.tdm_cli.proofs.BoardFirstLaws.{board-reported}
@@ -9,7 +9,7 @@ use Rattle.tdm_cli.proofs.check.check.Goals as goal
 pub returns-in-Err-clause-ends : goal.returns-in-Err-clause-ends
 returns-in-Err-clause-ends g c = inl (
   c.refuse_board.ensures.ends (g.D.Desk.seen c.args.desk.now) c.args.board.now c.in-Err.ensures.silent c.in-Err.ensures.fault,
-  touches-then _ _ _ _ c.in-Err.ensures.others c.refuse_board.ensures.inputs c.refuse_board.ensures.outputs,
+  touches-then _ _ _ _ c.in-Err.ensures.others c.refuse_board.ensures.slots,
 )
 
 pub returns-in-Err-clause-read_fault : goal.returns-in-Err-clause-read_fault
@@ -18,7 +18,13 @@ returns-in-Err-clause-read_fault g c = λ fault.
     board-reported g.D.Desk.counts g.D.Desk.steady g.D.Desk.seen c.args.desk.now c.refuse_board.new.desk c.args.board.now _ failed (c.refuse_board.ensures.ends (g.D.Desk.seen c.args.desk.now) c.args.board.now c.in-Err.ensures.silent c.in-Err.ensures.fault) fault
 
 pub returns-in-Ok-clause-read : goal.returns-in-Ok-clause-read
-returns-in-Ok-clause-read g c = λ ok. read-both _ _ _ c.in-Ok.ensures.others c.in-Ok.ensures.read (c.check_cert.ensures.others ok) (c.check_cert.ensures.read ok)
+returns-in-Ok-clause-read g c = λ ok. read-both _ _ c.in-Ok.ensures.read c.check_cert.ensures.others (c.check_cert.ensures.read ok)
 
 pub returns-in-Err-clause-read : goal.returns-in-Err-clause-read
 returns-in-Err-clause-read g c = λ ok. absurd (subst (BoardInputEnds (g.D.Desk.seen c.args.desk.now) (g.D.Desk.seen c.refuse_board.new.desk) c.args.board.now) ok (c.refuse_board.ensures.ends (g.D.Desk.seen c.args.desk.now) c.args.board.now c.in-Err.ensures.silent c.in-Err.ensures.fault))
+
+pub returns-in-Ok-clause-slots : goal.returns-in-Ok-clause-slots
+returns-in-Ok-clause-slots g c = judge-slots _ _ _ c.in-Ok.ensures.others c.check_cert.ensures.others
+
+pub returns-in-Err-clause-slots : goal.returns-in-Err-clause-slots
+returns-in-Err-clause-slots g c = judge-slots-first _ _ (touches-then _ _ _ _ c.in-Err.ensures.others c.refuse_board.ensures.slots)

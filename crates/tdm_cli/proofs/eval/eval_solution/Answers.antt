@@ -15,7 +15,7 @@ pub returns-in-Err-clause-read : goal.returns-in-Err-clause-read
 returns-in-Err-clause-read g c = λ ok. absurd (subst (SolutionInputEnds (g.D.Desk.seen c.args.desk.now) (g.D.Desk.seen c.refuse_solution.new.desk) c.args.problem.now c.args.solution.now) ok (c.refuse_solution.ensures.ends (g.D.Desk.seen c.args.desk.now) c.args.problem.now c.args.solution.now c.in-Err.ensures.silent c.in-Err.ensures.fault))
 
 pub returns-in-Err-clause-others : goal.returns-in-Err-clause-others
-returns-in-Err-clause-others g c = λ ok. absurd (subst (SolutionInputEnds (g.D.Desk.seen c.args.desk.now) (g.D.Desk.seen c.refuse_solution.new.desk) c.args.problem.now c.args.solution.now) ok (c.refuse_solution.ensures.ends (g.D.Desk.seen c.args.desk.now) c.args.problem.now c.args.solution.now c.in-Err.ensures.silent c.in-Err.ensures.fault))
+returns-in-Err-clause-others g c = touches-then _ _ _ _ c.in-Err.ensures.others c.refuse_solution.ensures.slots
 
 pub returns-in-Ok-clause-others : goal.returns-in-Ok-clause-others
-returns-in-Ok-clause-others g c = λ _. touches-then _ _ _ _ c.in-Ok.ensures.others c.judge_solution.ensures.inputs c.judge_solution.ensures.outputs
+returns-in-Ok-clause-others g c = touches-then _ _ _ _ c.in-Ok.ensures.others c.judge_solution.ensures.slots

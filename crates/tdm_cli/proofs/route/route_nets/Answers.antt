@@ -2,6 +2,7 @@ use Rattle.std.proofs.Common.{inl, inr, refl, ◌∙◌, subst}
 use Rattle.solution_text.specs.Text.{solution_text}
 use Rattle.bound_cert.specs.CertText.{cert_text}
 use Rattle.tdm_cli.specs.Ends.{ObstacleEnds, DeliveryEnds}
+use Rattle.tdm_desk.specs.declared.slots.OutSlot.TheVariants.{Out2}
 use Rattle.tdm_cli.proofs.ChangeLaws.{says_nothing}
 use Rattle.tdm_cli.proofs.EndsLaws.{silence_then_delivery}
 use Rattle.tdm_cli.proofs.route.route_nets.Goals as goal
@@ -21,10 +22,10 @@ pub returns-in-Err-clause-ends : goal.returns-in-Err-clause-ends
 returns-in-Err-clause-ends g c = λ before silent. inl (c.refuse_nets.ensures.ends before c.args.problem.now silent c.in-Err.ensures.obstacle)
 
 pub returns-in-Err-clause-inputs : goal.returns-in-Err-clause-inputs
-returns-in-Err-clause-inputs g c = λ ok. absurd (subst (ObstacleEnds (g.D.Desk.seen c.args.desk.now) (g.D.Desk.seen c.refuse_nets.new.desk) c.args.problem.now) ok (c.refuse_nets.ensures.ends (g.D.Desk.seen c.args.desk.now) c.args.problem.now (says_nothing _ _ refl refl) c.in-Err.ensures.obstacle))
+returns-in-Err-clause-inputs g c = c.refuse_nets.ensures.slots.inputs
 
-pub returns-in-Err-clause-finished : goal.returns-in-Err-clause-finished
-returns-in-Err-clause-finished g c = λ ok. absurd (subst (ObstacleEnds (g.D.Desk.seen c.args.desk.now) (g.D.Desk.seen c.refuse_nets.new.desk) c.args.problem.now) ok (c.refuse_nets.ensures.ends (g.D.Desk.seen c.args.desk.now) c.args.problem.now (says_nothing _ _ refl refl) c.in-Err.ensures.obstacle))
+pub returns-in-Err-clause-closed : goal.returns-in-Err-clause-closed
+returns-in-Err-clause-closed g c = λ ok. absurd (subst (ObstacleEnds (g.D.Desk.seen c.args.desk.now) (g.D.Desk.seen c.refuse_nets.new.desk) c.args.problem.now) ok (c.refuse_nets.ensures.ends (g.D.Desk.seen c.args.desk.now) c.args.problem.now (says_nothing _ _ refl refl) c.in-Err.ensures.obstacle))
 
 pub returns-in-Err-clause-third : goal.returns-in-Err-clause-third
-returns-in-Err-clause-third g c = λ ok. absurd (subst (ObstacleEnds (g.D.Desk.seen c.args.desk.now) (g.D.Desk.seen c.refuse_nets.new.desk) c.args.problem.now) ok (c.refuse_nets.ensures.ends (g.D.Desk.seen c.args.desk.now) c.args.problem.now (says_nothing _ _ refl refl) c.in-Err.ensures.obstacle))
+returns-in-Err-clause-third g c = c.refuse_nets.ensures.slots.outputs Out2

@@ -1,6 +1,6 @@
 use Rattle.std.proofs.Common.{refl, inl, inr, take}
 use Rattle.tdm_cli.proofs.ChangeLaws.{says_said}
-use Rattle.tdm_cli.proofs.SettledLaws.{inputs-said, outputs-said}
+use Rattle.tdm_cli.proofs.SettledLaws.{slots-said}
 use Rattle.tdm_cli.proofs.saying.conclude.Goals as goal
 
 pub returns-in-Ok-clause-ends : goal.returns-in-Ok-clause-ends
@@ -24,20 +24,11 @@ returns-in-Err-NoMemory-clause-ends g c =
       answers = inr refl;
     })
 
-pub returns-in-Ok-clause-inputs : goal.returns-in-Ok-clause-inputs
-returns-in-Ok-clause-inputs g c = inputs-said _ _ _ c.in-Ok.ensures.ok
+pub returns-in-Ok-clause-slots : goal.returns-in-Ok-clause-slots
+returns-in-Ok-clause-slots g c = slots-said _ _ _ c.in-Ok.ensures.ok
 
-pub returns-in-Ok-clause-outputs : goal.returns-in-Ok-clause-outputs
-returns-in-Ok-clause-outputs g c = outputs-said _ _ _ c.in-Ok.ensures.ok
+pub returns-in-Err-Failed-clause-slots : goal.returns-in-Err-Failed-clause-slots
+returns-in-Err-Failed-clause-slots g c = slots-said _ _ _ c.in-Err-Failed.ensures.err.1
 
-pub returns-in-Err-Failed-clause-inputs : goal.returns-in-Err-Failed-clause-inputs
-returns-in-Err-Failed-clause-inputs g c = inputs-said _ _ _ c.in-Err-Failed.ensures.err.1
-
-pub returns-in-Err-Failed-clause-outputs : goal.returns-in-Err-Failed-clause-outputs
-returns-in-Err-Failed-clause-outputs g c = outputs-said _ _ _ c.in-Err-Failed.ensures.err.1
-
-pub returns-in-Err-NoMemory-clause-inputs : goal.returns-in-Err-NoMemory-clause-inputs
-returns-in-Err-NoMemory-clause-inputs g c = inputs-said _ _ _ c.in-Err-NoMemory.ensures.err.1
-
-pub returns-in-Err-NoMemory-clause-outputs : goal.returns-in-Err-NoMemory-clause-outputs
-returns-in-Err-NoMemory-clause-outputs g c = outputs-said _ _ _ c.in-Err-NoMemory.ensures.err.1
+pub returns-in-Err-NoMemory-clause-slots : goal.returns-in-Err-NoMemory-clause-slots
+returns-in-Err-NoMemory-clause-slots g c = slots-said _ _ _ c.in-Err-NoMemory.ensures.err.1

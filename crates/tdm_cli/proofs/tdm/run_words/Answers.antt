@@ -43,3 +43,12 @@ returns-in-Some-Eval-clause-eval g c = λ board solution is.
     let new = g.D.Desk.seen c.eval.new.desk in
     let names = names-are (codes "eval") _ _ _ board solution (rw c.in-Some-Eval.field-0-is at c.in-Some-Eval.ensures.found) is in
     subst (λ b. EvalEnds old new b solution c.eval.result) names.0 (subst (λ n. EvalEnds old new c.in-Some-Eval.board.now n c.eval.result) names.1 c.eval.ensures.ends)
+
+pub returns-in-Some-Route-clause-usage_slots : goal.returns-in-Some-Route-clause-usage_slots
+returns-in-Some-Route-clause-usage_slots g c = λ not_command. absurd (not_command (is_route _ _ _ (rw c.in-Some-Route.field-0-is at c.in-Some-Route.ensures.found)))
+
+pub returns-in-Some-Eval-clause-usage_slots : goal.returns-in-Some-Eval-clause-usage_slots
+returns-in-Some-Eval-clause-usage_slots g c = λ not_command. absurd (not_command (is_eval _ _ (rw c.in-Some-Eval.field-0-is at c.in-Some-Eval.ensures.found)))
+
+pub returns-in-Some-Check-clause-usage_slots : goal.returns-in-Some-Check-clause-usage_slots
+returns-in-Some-Check-clause-usage_slots g c = λ not_command. absurd (not_command (is_check _ _ (rw c.in-Some-Check.field-0-is at c.in-Some-Check.ensures.found)))

@@ -1,7 +1,7 @@
 use Rattle.std.proofs.Common.{inl, []}
 use Rattle.tdm_cli.proofs.ChangeLaws.{says_output_closed}
 use Rattle.tdm_cli.proofs.EndsLaws.{created-is-open, written-is-open, written-changes, written-part, closed-changes, whole-part, on-ok, on-err}
-use Rattle.tdm_cli.proofs.SettledLaws.{inputs-output_closed, inputs-written, inputs-twice, closed-finished, others-closed, others-written, others-twice}
+use Rattle.tdm_cli.proofs.SettledLaws.{inputs-output_closed, inputs-written, inputs-twice, closed-after, others-closed, others-written, others-twice}
 use Rattle.tdm_cli.proofs.writing.write_cert_file.Goals as goal
 
 pub returns-in-Err-clause-err : goal.returns-in-Err-clause-err
@@ -31,8 +31,8 @@ returns-in-Err-write_cert-clause-inputs g c = inputs-written _ _ _ _ _ _ c.in_de
 pub returns-clause-inputs : goal.returns-clause-inputs
 returns-clause-inputs g c = inputs-twice _ _ _ (inputs-written _ _ _ _ _ _ c.in_default.ensures.ok c.in_default-write_cert.ensures.ok) (inputs-output_closed _ _ _ c.finish.ensures.closed)
 
-pub returns-clause-finished : goal.returns-clause-finished
-returns-clause-finished g c = on-ok _ _ (closed-finished _ _ _ c.finish.ensures.closed)
+pub returns-clause-closed : goal.returns-clause-closed
+returns-clause-closed g c = on-ok _ _ (closed-after _ _ _ c.finish.ensures.closed)
 
 pub returns-in-Err-clause-others : goal.returns-in-Err-clause-others
 returns-in-Err-clause-others g c = others-closed _ _ _ c.in-Err.ensures.err
