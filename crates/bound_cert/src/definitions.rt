@@ -7,11 +7,13 @@ ghost use Rattle.bound_cert.specs.CertText.{cert_text};
 ghost use Rattle.bound_cert.specs.declared.certificate.CertKind.TheVariants.{Hop};
 ghost use Rattle.bound_cert.specs.declared.limits.TheConstants.{MAX_LENGTH, MAX_POTENTIALS, MAX_POTENTIAL_VALUE, MAX_UNIT, MAX_WEIGHT, UNIFORM_WEIGHT};
 ghost use Rattle.bound_cert.specs.declared.refusal.CertTextKind.TheVariants.{BadKind, BadNumber, BadUnit, BadVersion, CountLimit, ExtraLine, LengthLimit, MissingLine, NoHeader, NumberTooLarge, UnknownPotential, WeightLimit, WrongCount};
-ghost use Rattle.bound_cert.specs.Floors.{hop_floor, part_of};
+ghost use Rattle.bound_cert.specs.Floors.{hop_floor, part_of, share_floor, uniform_length};
 ghost use Rattle.bound_cert.specs.Sources.{roots_of};
 ghost use Rattle.bound_cert.specs.Certificate.{IsCert, IsCertFor};
 ghost use Rattle.bound_cert.specs.Samples.{star_cert, wire_cert};
 ghost use Rattle.bound_cert.specs.Valid.{IsSteep, IsValid};
+
+use tdm_problem::root_is_exact;
 
 /// Bounds of certificates for three nets on one wire, and for the star.
 fn bounds_are_raised_to_even_numbers()
@@ -114,3 +116,15 @@ fn sources_and_floors()
     ensures part { part_of 9 2 ≡ 4 }
     ensures no_parts { part_of 9 0 ≡ 0 }
 {}
+
+/// The floor by shares of three nets on one wire, in one group and in three: each net's root is that of the uniform
+/// weight, 1,024, so the one length is 3,072.
+fn floors_by_shares()
+    ensures length { uniform_length shared (1 ∷ 1 ∷ 1 ∷ []) ≡ 3072 }
+    ensures together { share_floor shared (1 ∷ 1 ∷ 1 ∷ []) ≡ 10 }
+    ensures apart { share_floor (record shared { groups = (0 ∷ []) ∷ (1 ∷ []) ∷ (2 ∷ []) ∷ [] })
+        (1 ∷ 1 ∷ 1 ∷ []) ≡ 4 }
+    ensures no_group { share_floor (record shared { groups = [] }) (1 ∷ 1 ∷ 1 ∷ []) ≡ 0 }
+{
+    root_is_exact();
+}
