@@ -3,6 +3,7 @@ pub mod InputLaws
 mod ReadOutLaws
 pub mod EndsLaws
 mod SettledLaws
+mod JudgedLaws
 pub mod ProgressLaws
 pub mod BaselineLaws
 pub mod PromiseLaws

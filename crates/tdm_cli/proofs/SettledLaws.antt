@@ -8,7 +8,7 @@ use Rattle.tdm_desk.specs.Slots.{input_place, output_place}
 use Rattle.tdm_desk.specs.Files.{Bytes, Name}
 use Rattle.tdm_desk.specs.Seen.{Seen, opened, input_closed, taken, created, written, output_closed, said, rest_of, output_is_open, input_is_open}
 use Rattle.tdm_desk.proofs.SeenLaws.{input_is_open-opened_other, input_is_open-input_closed_other, input_is_open-taken, rest-opened_other, rest-input_closed_other, rest-taken_other, output_is_open-opened, output_is_open-input_closed, output_is_open-taken, input_is_open-created, input_is_open-written, input_is_open-output_closed, input_is_open-said, rest-created, rest-written, rest-output_closed, rest-said, output_is_open-said, output_is_open-output_closed, output_is_open-closed_other, output_is_open-written, output_is_open-created_other}
-use Rattle.tdm_cli.specs.Settled.{IsReadOut, KeepsInput, KeepsInputs, KeepsOutputs, KeepsOtherOutputs, KeepsSlots, TouchesOnly, TouchesRouteSlots, TouchesJudgeSlots, IsClosed, IsSettled, HasReadBoth}
+use Rattle.tdm_cli.specs.Settled.{IsReadOut, KeepsInput, KeepsInputs, KeepsOtherOutputs, KeepsSlots, TouchesOnly, TouchesRouteSlots, TouchesJudgeSlots, IsClosed, IsSettled, HasReadBoth}
 
 -- nothing was done
 pub slots-same : (before after : Seen) → after ≡ before → KeepsSlots before after
@@ -116,7 +116,7 @@ still-read-out slot before after kept read = record {
 }
 
 -- the three inputs are three
-inputs-apart : input_place In1 ≡ input_place In0 → ⊥
+pub inputs-apart : input_place In1 ≡ input_place In0 → ⊥
 unfolding input_place
 inputs-apart same = cc
 

@@ -4,6 +4,7 @@ pub mod Reports
 pub mod Change
 pub mod Saying
 pub mod Settled
+pub mod Judged
 pub mod TwoFiles
 pub mod Certified
 pub mod Input

@@ -1,13 +1,14 @@
 //! The command `check`.
-ghost use Rattle.std.specs.Prelude.{◌≡◌, []};
+ghost use Rattle.std.specs.Prelude.{◌≡◌, ◌^◌, []};
 ghost use Rattle.tdm_desk.specs.Seen.{Seen};
 ghost use Rattle.tdm_desk.specs.Counts.{CountsFaults, ReadingFailed, WritingFailed};
-ghost use Rattle.tdm_desk.specs.declared.slots.InSlot.TheVariants.{In1};
+ghost use Rattle.tdm_desk.specs.declared.slots.InSlot.TheVariants.{In0, In1};
 ghost use Rattle.tdm_problem.specs.Board.{Board};
 ghost use Rattle.bound_cert.specs.Certificate.{Cert, IsCertFor};
 ghost use Rattle.cert_checker.specs.Answer.{IsAnswer};
 ghost use Rattle.tdm_cli.specs.Change.{Says};
 ghost use Rattle.tdm_cli.specs.Saying.{ReportsReadFault};
+ghost use Rattle.tdm_cli.specs.Judged.{WasRead, JudgesBoard, JudgesSecond};
 ghost use Rattle.tdm_cli.specs.Settled.{IsReadOut, KeepsSlots, TouchesOnly, TouchesJudgeSlots, HasReadBoth};
 ghost use Rattle.tdm_cli.specs.CheckEnds.{status_of, AnswerEnds, CheckingEnds, CheckEnds};
 ghost use Rattle.tdm_cli.specs.declared.status.Status.TheVariants.{Ok, ReadFault, WriteFault};
@@ -71,6 +72,7 @@ fn check_cert<D: Desk>(alloc: Global, desk: &mut D, problem: &Problem, cert: &st
         → CheckingEnds before (D.seen desk.new) problem.now cert.now result }
     ensures read { result ≡ Ok → IsReadOut In1 (D.seen desk.new) }
     ensures others { TouchesOnly In1 (D.seen desk.old) (D.seen desk.new) }
+    ensures judged { JudgesSecond result → WasRead In1 (2 ^ 30) cert.now (D.seen desk.old) (D.seen desk.new) }
     ensures read_fault { result ≡ ReadFault →
         ReadingFailed D.counts D.steady In1 desk.old desk.new }
     ensures write_fault { result ≡ WriteFault → WritingFailed D.counts D.steady desk.old desk.new }
@@ -88,6 +90,8 @@ pub fn check<D: Desk>(alloc: Global, desk: &mut D, board: &str, cert: &str) -> S
     ensures ends { CheckEnds (D.seen desk.old) (D.seen desk.new) board.now cert.now result }
     ensures read { result ≡ Ok → HasReadBoth (D.seen desk.new) }
     ensures slots { TouchesJudgeSlots (D.seen desk.old) (D.seen desk.new) }
+    ensures board_judged { JudgesBoard result → WasRead In0 (2 ^ 28) board.now (D.seen desk.old) (D.seen desk.new) }
+    ensures judged { JudgesSecond result → WasRead In1 (2 ^ 30) cert.now (D.seen desk.old) (D.seen desk.new) }
     ensures read_fault { result ≡ ReadFault →
         ReportsReadFault D.counts D.steady D.seen desk.old desk.new }
     ensures write_fault { result ≡ WriteFault → WritingFailed D.counts D.steady desk.old desk.new }

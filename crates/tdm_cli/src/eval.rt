@@ -1,14 +1,15 @@
 //! The command `eval`.
-ghost use Rattle.std.specs.Prelude.{◌≡◌, ◌↔◌, []};
+ghost use Rattle.std.specs.Prelude.{◌≡◌, ◌^◌, ◌↔◌, []};
 ghost use Rattle.tdm_desk.specs.Seen.{Seen};
 ghost use Rattle.tdm_desk.specs.Counts.{CountsFaults, ReadingFailed, WritingFailed};
-ghost use Rattle.tdm_desk.specs.declared.slots.InSlot.TheVariants.{In1};
+ghost use Rattle.tdm_desk.specs.declared.slots.InSlot.TheVariants.{In0, In1};
 ghost use Rattle.tdm_problem.specs.Board.{Board};
 ghost use Rattle.tdm_problem.specs.Routing.{Routing, IsFor};
 ghost use Rattle.tdm_problem.specs.Legal.{IsLegal};
 ghost use Rattle.solution_eval.specs.Verdict.{IsVerdict, SaysLegal};
 ghost use Rattle.tdm_cli.specs.Change.{Says};
 ghost use Rattle.tdm_cli.specs.Saying.{ReportsReadFault};
+ghost use Rattle.tdm_cli.specs.Judged.{WasRead, JudgesBoard, JudgesSecond};
 ghost use Rattle.tdm_cli.specs.Settled.{IsReadOut, KeepsSlots, TouchesOnly, TouchesJudgeSlots, HasReadBoth};
 ghost use Rattle.tdm_cli.specs.EvalEnds.{status_of, VerdictEnds, JudgingEnds, EvalEnds};
 ghost use Rattle.tdm_cli.specs.declared.status.Status.TheVariants.{Ok, ReadFault, WriteFault};
@@ -74,6 +75,7 @@ fn eval_solution<D: Desk>(alloc: Global, desk: &mut D, problem: &Problem, soluti
         → JudgingEnds before (D.seen desk.new) problem.now solution.now result }
     ensures read { result ≡ Ok → IsReadOut In1 (D.seen desk.new) }
     ensures others { TouchesOnly In1 (D.seen desk.old) (D.seen desk.new) }
+    ensures judged { JudgesSecond result → WasRead In1 (2 ^ 30) solution.now (D.seen desk.old) (D.seen desk.new) }
     ensures read_fault { result ≡ ReadFault →
         ReadingFailed D.counts D.steady In1 desk.old desk.new }
     ensures write_fault { result ≡ WriteFault → WritingFailed D.counts D.steady desk.old desk.new }
@@ -90,6 +92,8 @@ pub fn eval<D: Desk>(alloc: Global, desk: &mut D, board: &str, solution: &str) -
     ensures ends { EvalEnds (D.seen desk.old) (D.seen desk.new) board.now solution.now result }
     ensures read { result ≡ Ok → HasReadBoth (D.seen desk.new) }
     ensures slots { TouchesJudgeSlots (D.seen desk.old) (D.seen desk.new) }
+    ensures board_judged { JudgesBoard result → WasRead In0 (2 ^ 28) board.now (D.seen desk.old) (D.seen desk.new) }
+    ensures judged { JudgesSecond result → WasRead In1 (2 ^ 30) solution.now (D.seen desk.old) (D.seen desk.new) }
     ensures read_fault { result ≡ ReadFault →
         ReportsReadFault D.counts D.steady D.seen desk.old desk.new }
     ensures write_fault { result ≡ WriteFault → WritingFailed D.counts D.steady desk.old desk.new }

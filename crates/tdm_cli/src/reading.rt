@@ -4,6 +4,7 @@ ghost use Rattle.tdm_desk.specs.Counts.{CountsFaults, ReadingFailed};
 ghost use Rattle.tdm_problem.specs.Routing.{IsFor};
 ghost use Rattle.bound_cert.specs.Certificate.{IsCertFor};
 ghost use Rattle.tdm_cli.specs.Change.{Says};
+ghost use Rattle.tdm_cli.specs.Judged.{WasRead, IsRefusal};
 ghost use Rattle.tdm_cli.specs.Settled.{IsReadOut, TouchesOnly};
 ghost use Rattle.tdm_cli.specs.Input.{IsBoardFile, IsSolutionFile, IsCertFile, HasFront, UnreadShows, BoardFaultShows, SolutionFaultShows, CertFaultShows};
 
@@ -49,6 +50,7 @@ fn read_bytes<D: Desk>(
     ensures ok { IfOk result (λ bytes. HasFront (D.seen desk.old) name.now (limit + 1) bytes.items) }
     ensures read { IfOk result (λ bytes. length bytes.items ≤ limit → IsReadOut slot (D.seen desk.new)) }
     ensures others { TouchesOnly slot (D.seen desk.old) (D.seen desk.new) }
+    ensures whole { IfOk result (λ _. WasRead slot limit name.now (D.seen desk.old) (D.seen desk.new)) }
     ensures unread { IfErr result (UnreadShows (D.seen desk.old) name.now) }
     ensures failed { IsErrOf result Unread.Failed →
         ReadingFailed D.counts D.steady slot desk.old desk.new }
@@ -77,6 +79,8 @@ pub fn read_problem<D: Desk>(
     ensures ok { IfOk result (IsBoardFile (D.seen desk.old) name.now) }
     ensures read { OnOk result (IsReadOut slot (D.seen desk.new)) }
     ensures others { TouchesOnly slot (D.seen desk.old) (D.seen desk.new) }
+    ensures whole { OnOk result (WasRead slot (2 ^ 28) name.now (D.seen desk.old) (D.seen desk.new)) }
+    ensures refused { IfErr result (λ fault. IsRefusal fault → WasRead slot (2 ^ 28) name.now (D.seen desk.old) (D.seen desk.new)) }
     ensures fault { IfErr result (BoardFaultShows (D.seen desk.old) name.now) }
     ensures failed { IsErrOf result (InputFault.NotRead Unread.Failed) →
         ReadingFailed D.counts D.steady slot desk.old desk.new }
@@ -107,6 +111,8 @@ pub fn read_routing<D: Desk>(
     ensures ok { IfOk result (IsSolutionFile (D.seen desk.old) name.now problem.now) }
     ensures read { OnOk result (IsReadOut slot (D.seen desk.new)) }
     ensures others { TouchesOnly slot (D.seen desk.old) (D.seen desk.new) }
+    ensures whole { OnOk result (WasRead slot (2 ^ 30) name.now (D.seen desk.old) (D.seen desk.new)) }
+    ensures refused { IfErr result (λ fault. IsRefusal fault → WasRead slot (2 ^ 30) name.now (D.seen desk.old) (D.seen desk.new)) }
     ensures for_problem { IfOk result (IsFor problem.now) }
     ensures fault { IfErr result (SolutionFaultShows (D.seen desk.old) name.now problem.now) }
     ensures failed { IsErrOf result (InputFault.NotRead Unread.Failed) →
@@ -138,6 +144,8 @@ pub fn read_certificate<D: Desk>(
     ensures ok { IfOk result (IsCertFile (D.seen desk.old) name.now problem.now) }
     ensures read { OnOk result (IsReadOut slot (D.seen desk.new)) }
     ensures others { TouchesOnly slot (D.seen desk.old) (D.seen desk.new) }
+    ensures whole { OnOk result (WasRead slot (2 ^ 30) name.now (D.seen desk.old) (D.seen desk.new)) }
+    ensures refused { IfErr result (λ fault. IsRefusal fault → WasRead slot (2 ^ 30) name.now (D.seen desk.old) (D.seen desk.new)) }
     ensures for_problem { IfOk result (IsCertFor problem.now) }
     ensures fault { IfErr result (CertFaultShows (D.seen desk.old) name.now problem.now) }
     ensures failed { IsErrOf result (InputFault.NotRead Unread.Failed) →

@@ -1,17 +1,18 @@
 //! Saying why a run ends before its work is done.
-ghost use Rattle.std.specs.Prelude.{◌≡◌, []};
+ghost use Rattle.std.specs.Prelude.{◌≡◌, ◌≢◌, []};
 ghost use Rattle.tdm_desk.specs.Files.{Name};
 ghost use Rattle.tdm_desk.specs.Seen.{Seen};
 ghost use Rattle.tdm_desk.specs.Counts.{CountsFaults, WritingFailed};
 ghost use Rattle.tdm_problem.specs.Board.{Board};
 ghost use Rattle.tdm_cli.specs.Change.{Says};
 ghost use Rattle.tdm_cli.specs.Input.{UnreadShows, BoardFaultShows, SolutionFaultShows, CertFaultShows};
+ghost use Rattle.tdm_cli.specs.Judged.{IsRefusal};
 ghost use Rattle.tdm_cli.specs.Settled.{KeepsSlots};
 ghost use Rattle.tdm_cli.specs.Obstacle.{ObstacleShows};
 ghost use Rattle.tdm_cli.specs.Ends.{UnreadEnds, BoardInputEnds, ObstacleEnds};
 ghost use Rattle.tdm_cli.specs.EvalEnds.{SolutionInputEnds};
 ghost use Rattle.tdm_cli.specs.CheckEnds.{CertInputEnds};
-ghost use Rattle.tdm_cli.specs.declared.status.Status.TheVariants.{WriteFault, ReadFault};
+ghost use Rattle.tdm_cli.specs.declared.status.Status.TheVariants.{WriteFault, ReadFault, BoardRefused, SolutionRefused, CertRefused};
 ghost use Rattle.tdm_cli.specs.declared.reading.Unread.TheVariants.{Failed};
 ghost use Rattle.tdm_cli.specs.declared.reading.InputFault.TheVariants.{NotRead};
 
@@ -37,6 +38,7 @@ fn refuse_unread<D: Desk>(alloc: Global, desk: &mut D, place: u32, unread: &Unre
     ensures ends { (before : Seen) (name : Name) → Says before (D.seen desk.old) []
         → UnreadShows before name unread.now → UnreadEnds before (D.seen desk.new) place name result }
     ensures slots { KeepsSlots (D.seen desk.old) (D.seen desk.new) }
+    ensures unjudged { (result ≢ BoardRefused) × (result ≢ SolutionRefused) × (result ≢ CertRefused) }
     ensures read_fault { result ≡ ReadFault → unread.now ≡ Failed }
     ensures write_fault { result ≡ WriteFault → WritingFailed D.counts D.steady desk.old desk.new }
     ensures counted { CountsFaults D.counts D.steady desk.old desk.new }
@@ -57,6 +59,7 @@ pub fn refuse_board<D: Desk>(
     ensures ends { (before : Seen) (board : Name) → Says before (D.seen desk.old) []
         → BoardFaultShows before board fault.now → BoardInputEnds before (D.seen desk.new) board result }
     ensures slots { KeepsSlots (D.seen desk.old) (D.seen desk.new) }
+    ensures refused { result ≡ BoardRefused → IsRefusal fault.now }
     ensures read_fault { result ≡ ReadFault → fault.now ≡ NotRead Failed }
     ensures write_fault { result ≡ WriteFault → WritingFailed D.counts D.steady desk.old desk.new }
     ensures counted { CountsFaults D.counts D.steady desk.old desk.new }
@@ -80,6 +83,7 @@ pub fn refuse_solution<D: Desk>(
         → SolutionFaultShows before solution board fault.now
         → SolutionInputEnds before (D.seen desk.new) board solution result }
     ensures slots { KeepsSlots (D.seen desk.old) (D.seen desk.new) }
+    ensures refused { result ≡ SolutionRefused → IsRefusal fault.now }
     ensures read_fault { result ≡ ReadFault → fault.now ≡ NotRead Failed }
     ensures write_fault { result ≡ WriteFault → WritingFailed D.counts D.steady desk.old desk.new }
     ensures counted { CountsFaults D.counts D.steady desk.old desk.new }
@@ -99,6 +103,7 @@ pub fn refuse_cert<D: Desk>(alloc: Global, desk: &mut D, fault: &InputFault<Cert
         → CertFaultShows before cert board fault.now
         → CertInputEnds before (D.seen desk.new) board cert result }
     ensures slots { KeepsSlots (D.seen desk.old) (D.seen desk.new) }
+    ensures refused { result ≡ CertRefused → IsRefusal fault.now }
     ensures read_fault { result ≡ ReadFault → fault.now ≡ NotRead Failed }
     ensures write_fault { result ≡ WriteFault → WritingFailed D.counts D.steady desk.old desk.new }
     ensures counted { CountsFaults D.counts D.steady desk.old desk.new }

@@ -1,5 +1,5 @@
 //! The command `route`.
-ghost use Rattle.std.specs.Prelude.{◌≡◌, [], IfOk, IfErr};
+ghost use Rattle.std.specs.Prelude.{◌≡◌, ◌^◌, [], IfOk, IfErr};
 ghost use Rattle.tdm_desk.specs.Seen.{Seen, output_is_open};
 ghost use Rattle.tdm_desk.specs.Counts.{CountsFaults, ReadingFailed, WritingFailed};
 ghost use Rattle.tdm_desk.specs.declared.slots.InSlot.TheVariants.{In0};
@@ -8,6 +8,7 @@ ghost use Rattle.tdm_problem.specs.Value.{value_of};
 ghost use Rattle.bound_cert.specs.Bound.{bound_of};
 ghost use Rattle.tdm_cli.specs.Change.{Says};
 ghost use Rattle.tdm_cli.specs.Reports.{route_report};
+ghost use Rattle.tdm_cli.specs.Judged.{WasRead, JudgesBoard};
 ghost use Rattle.tdm_cli.specs.Settled.{KeepsInputs, IsClosed, IsSettled, TouchesRouteSlots};
 ghost use Rattle.tdm_cli.specs.Baseline.{IsBaseline};
 ghost use Rattle.tdm_cli.specs.Certified.{IsBestCert};
@@ -99,6 +100,7 @@ pub fn route<D: Desk>(
     ensures ends { RouteEnds (D.seen desk.old) (D.seen desk.new) board.now solution.now cert.now result }
     ensures settled { result ≡ Ok → IsSettled (D.seen desk.new) }
     ensures slots { TouchesRouteSlots (D.seen desk.old) (D.seen desk.new) }
+    ensures judged { JudgesBoard result → WasRead In0 (2 ^ 28) board.now (D.seen desk.old) (D.seen desk.new) }
     ensures read_fault { result ≡ ReadFault →
         ReadingFailed D.counts D.steady In0 desk.old desk.new }
     ensures write_fault { result ≡ WriteFault → WritingFailed D.counts D.steady desk.old desk.new }

@@ -1,5 +1,5 @@
 //! The top call.
-ghost use Rattle.std.specs.Prelude.{◌≡◌, ◌≢◌, ◌⊎◌, ℕ, map, string_bytes, Some};
+ghost use Rattle.std.specs.Prelude.{◌≡◌, ◌≢◌, ◌⊎◌, ◌^◌, ℕ, map, string_bytes, Some};
 ghost use Rattle.tdm_desk.specs.Files.{Files, Name};
 ghost use Rattle.tdm_desk.specs.Seen.{files_of};
 ghost use Rattle.tdm_desk.specs.Counts.{CountsFaults, ReadingFailed, WritingFailed};
@@ -9,6 +9,7 @@ ghost use Rattle.solution_eval.specs.declared.judgement.Verdict.TheVariants.{Leg
 ghost use Rattle.solution_eval.specs.Verdict.{SaysLegal};
 ghost use Rattle.tdm_cli.specs.Words.{IsRoute, IsEval, IsCheck, IsCommand};
 ghost use Rattle.tdm_cli.specs.Saying.{ReportsReadFault};
+ghost use Rattle.tdm_cli.specs.Judged.{WasRead, JudgesBoard, JudgesSecond};
 ghost use Rattle.tdm_cli.specs.Settled.{KeepsSlots, TouchesRouteSlots, TouchesJudgeSlots, IsSettled, HasReadBoth};
 ghost use Rattle.tdm_cli.specs.Ends.{UsageEnds, RouteEnds};
 ghost use Rattle.tdm_cli.specs.EvalEnds.{EvalEnds};
@@ -52,6 +53,14 @@ fn run_words<D: Desk>(alloc: Global, desk: &mut D, words: &[String]) -> Status
         → TouchesJudgeSlots (D.seen desk.old) (D.seen desk.new) }
     ensures check_slots { (board cert : Name) → IsCheck (map string_bytes words.now) board cert
         → TouchesJudgeSlots (D.seen desk.old) (D.seen desk.new) }
+    ensures route_judged { (board solution cert : Name) → IsRoute (map string_bytes words.now) board solution cert
+        → JudgesBoard result → WasRead In0 (2 ^ 28) board (D.seen desk.old) (D.seen desk.new) }
+    ensures eval_judged { (board solution : Name) → IsEval (map string_bytes words.now) board solution
+        → (JudgesBoard result → WasRead In0 (2 ^ 28) board (D.seen desk.old) (D.seen desk.new))
+        × (JudgesSecond result → WasRead In1 (2 ^ 30) solution (D.seen desk.old) (D.seen desk.new)) }
+    ensures check_judged { (board cert : Name) → IsCheck (map string_bytes words.now) board cert
+        → (JudgesBoard result → WasRead In0 (2 ^ 28) board (D.seen desk.old) (D.seen desk.new))
+        × (JudgesSecond result → WasRead In1 (2 ^ 30) cert (D.seen desk.old) (D.seen desk.new)) }
     ensures read_fault { result ≡ ReadFault →
         ReportsReadFault D.counts D.steady D.seen desk.old desk.new }
     ensures route_read_fault { (board solution cert : Name)
@@ -96,6 +105,16 @@ pub fn tdm<D: Desk>(alloc: Global, desk: &mut D, words: &[String]) -> Status
         → TouchesJudgeSlots (D.seen desk.old) (D.seen desk.new) }
     ensures check_slots { (board cert : Name) → IsCheck (map string_bytes words.now) board cert
         → TouchesJudgeSlots (D.seen desk.old) (D.seen desk.new) }
+
+    // A status that judges an input comes only once that was read to its end, or to one byte past the limit on its text.
+    ensures route_judged { (board solution cert : Name) → IsRoute (map string_bytes words.now) board solution cert
+        → JudgesBoard result → WasRead In0 (2 ^ 28) board (D.seen desk.old) (D.seen desk.new) }
+    ensures eval_judged { (board solution : Name) → IsEval (map string_bytes words.now) board solution
+        → (JudgesBoard result → WasRead In0 (2 ^ 28) board (D.seen desk.old) (D.seen desk.new))
+        × (JudgesSecond result → WasRead In1 (2 ^ 30) solution (D.seen desk.old) (D.seen desk.new)) }
+    ensures check_judged { (board cert : Name) → IsCheck (map string_bytes words.now) board cert
+        → (JudgesBoard result → WasRead In0 (2 ^ 28) board (D.seen desk.old) (D.seen desk.new))
+        × (JudgesSecond result → WasRead In1 (2 ^ 30) cert (D.seen desk.old) (D.seen desk.new)) }
 
     // Faults of the outside are shown by the desk's own counts; over a steady desk there are none. A read fault is
     // reported of the input whose count rose; `route` has one input alone.

@@ -1,5 +1,7 @@
-use Rattle.std.proofs.Common.{ap, inl, subst}
+use Rattle.std.proofs.Common.{ap, inl, subst, ◌^◌}
 use Rattle.tdm_cli.specs.Ends.{BoardInputEnds}
+use Rattle.tdm_desk.specs.declared.slots.InSlot.TheVariants.{In0, In1}
+use Rattle.tdm_cli.proofs.JudgedLaws.{still-read, read-from, board-still-read, board-refused, second-unjudged}
 use Rattle.tdm_cli.proofs.SettledLaws.{touches-then, read-both, judge-slots, judge-slots-first}
 use Rattle.std.specs.Prelude.{Err}
 use Rattle.tdm_desk.proofs.CountLaws.{reading_failed_before}
@@ -28,3 +30,19 @@ returns-in-Ok-clause-slots g c = judge-slots _ _ _ c.in-Ok.ensures.others c.chec
 
 pub returns-in-Err-clause-slots : goal.returns-in-Err-clause-slots
 returns-in-Err-clause-slots g c = judge-slots-first _ _ (touches-then _ _ _ _ c.in-Err.ensures.others c.refuse_board.ensures.slots)
+
+pub returns-in-Ok-clause-board_judged : goal.returns-in-Ok-clause-board_judged
+returns-in-Ok-clause-board_judged g c = λ _. board-still-read (2 ^ 28) _ _ _ _ c.in-Ok.ensures.whole c.check_cert.ensures.others
+
+pub returns-in-Ok-clause-judged : goal.returns-in-Ok-clause-judged
+returns-in-Ok-clause-judged g c = λ judges. read-from In1 (2 ^ 30) _ _ _ _ c.in-Ok.ensures.silent (c.check_cert.ensures.judged judges)
+
+pub returns-in-Err-clause-board_judged : goal.returns-in-Err-clause-board_judged
+returns-in-Err-clause-board_judged g c = λ judges.
+    let ends = c.refuse_board.ensures.ends (g.D.Desk.seen c.args.desk.now) c.args.board.now c.in-Err.ensures.silent c.in-Err.ensures.fault in
+    let refused = board-refused _ _ _ _ ends judges in
+    still-read In0 (2 ^ 28) _ _ _ _ (c.in-Err.ensures.refused (c.refuse_board.ensures.refused refused)) (c.refuse_board.ensures.slots.inputs In0)
+
+pub returns-in-Err-clause-judged : goal.returns-in-Err-clause-judged
+returns-in-Err-clause-judged g c = λ judges.
+    absurd (second-unjudged _ _ _ _ (c.refuse_board.ensures.ends (g.D.Desk.seen c.args.desk.now) c.args.board.now c.in-Err.ensures.silent c.in-Err.ensures.fault) judges)

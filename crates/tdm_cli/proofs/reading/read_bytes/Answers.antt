@@ -2,6 +2,7 @@ use Rattle.std.proofs.Common.{◌+◌}
 use Rattle.tdm_cli.proofs.ChangeLaws.{says_opened, says_input_closed, says_taken, changes_then_says}
 use Rattle.tdm_cli.proofs.InputLaws.{opened-is-open, front-of-file, when-true, when-false}
 use Rattle.tdm_cli.proofs.ReadOutLaws.{all-taken}
+use Rattle.tdm_cli.proofs.JudgedLaws.{read-through}
 use Rattle.tdm_cli.proofs.SettledLaws.{touches-input_closed, touches-taken}
 use Rattle.tdm_cli.proofs.reading.read_bytes.Goals as goal
 
@@ -49,3 +50,6 @@ returns-in-Err-Failed-clause-others g c = touches-input_closed _ _ _ c.in-Err-Fa
 
 pub returns-in-Err-NoMemory-clause-others : goal.returns-in-Err-NoMemory-clause-others
 returns-in-Err-NoMemory-clause-others g c = touches-input_closed _ _ _ c.in-Err-NoMemory.ensures.err
+
+pub returns-in-Ok-clause-whole : goal.returns-in-Ok-clause-whole
+returns-in-Ok-clause-whole g c = read-through _ _ _ _ _ _ (when-true _ _ _ _ c.in-Ok-true.field-0-test c.in-Ok-true.ensures.ok) c.in-Ok.ensures.ok
