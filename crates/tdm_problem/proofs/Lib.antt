@@ -1,5 +1,4 @@
 pub mod Boards
-pub mod CutRows
 pub mod Fits
 pub mod Ratios
 pub mod Repeats

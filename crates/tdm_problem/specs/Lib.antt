@@ -7,7 +7,6 @@ pub mod Walk
 pub mod Distance
 pub mod Legal
 pub mod Value
-pub mod Rows
 pub mod Firsts
 pub mod Samples
 pub mod Sums

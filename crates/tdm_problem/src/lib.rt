@@ -8,7 +8,6 @@ mod firsts;
 mod laws;
 mod limits;
 mod problem;
-mod rows;
 mod solution;
 #[cfg(test)]
 mod tests;

@@ -4,8 +4,8 @@ ghost use Rattle.tdm_problem.specs.Board.{IsBoard, IsWireOf, IsRowBelow, without
 ghost use Rattle.tdm_problem.specs.Limits.{most_fpgas, most_wires, most_nets, most_groups, most_listed_fpgas, most_listed_nets};
 
 use crate::firsts::Firsts;
-use crate::rows::Rows;
 use crate::wire::Wire;
+use flat_rows::FlatRows;
 use std::alloc::{AllocError, Global};
 use std::marker::Model;
 
@@ -15,8 +15,8 @@ use std::marker::Model;
 pub struct Problem {
     fpgas: u32,
     wires: Vec<Wire>,
-    nets: Rows<u32>,
-    groups: Rows<u32>,
+    nets: FlatRows<u32>,
+    groups: FlatRows<u32>,
 }
 
 impl Model for Problem {
@@ -38,8 +38,8 @@ impl Problem {
         Problem {
             fpgas,
             wires: Vec::new(alloc),
-            nets: Rows::new(alloc),
-            groups: Rows::new(alloc),
+            nets: FlatRows::new(alloc),
+            groups: FlatRows::new(alloc),
         }
     }
 

@@ -4,7 +4,7 @@ ghost use Rattle.std.specs.List.Sorted.{IsStrictlyIncreasing};
 ghost use Rattle.tdm_problem.specs.Limits.{most_nets};
 ghost use Rattle.tdm_problem.specs.Routing.{uses_of, wires_of, with_ratio, HasRisingWires};
 
-use crate::rows::Rows;
+use flat_rows::FlatRows;
 use std::alloc::{AllocError, Global};
 use std::marker::Model;
 
@@ -18,7 +18,7 @@ pub struct WireUse {
 /// Net by net the uses of wires, at most [`MAX_NETS`] nets. The wires of a net rise strictly.
 #[derive(Drop)]
 pub struct Solution {
-    uses: Rows<WireUse>,
+    uses: FlatRows<WireUse>,
 }
 
 impl Model for Solution {
@@ -37,7 +37,7 @@ impl Solution {
         ensures { result ≡ [] }
     {
         Solution {
-            uses: Rows::new(alloc),
+            uses: FlatRows::new(alloc),
         }
     }
 

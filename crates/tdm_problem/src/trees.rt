@@ -4,14 +4,14 @@ ghost use Rattle.std.specs.List.Sorted.{IsStrictlyIncreasing};
 ghost use Rattle.tdm_problem.specs.Limits.{most_nets};
 ghost use Rattle.tdm_problem.specs.Trees.{tree_of, HasRisingRows};
 
-use crate::rows::Rows;
+use flat_rows::FlatRows;
 use std::alloc::{AllocError, Global};
 use std::marker::Model;
 
 /// Net by net the wires that it uses, at most [`MAX_NETS`] nets. The wires of a net rise strictly.
 #[derive(Drop)]
 pub struct Trees {
-    wires: Rows<u32>,
+    wires: FlatRows<u32>,
 }
 
 impl Model for Trees {
@@ -31,7 +31,7 @@ impl Trees {
         ensures { result ≡ [] }
     {
         Trees {
-            wires: Rows::new(alloc),
+            wires: FlatRows::new(alloc),
         }
     }
 

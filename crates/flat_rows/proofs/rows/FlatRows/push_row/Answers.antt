@@ -1,6 +1,6 @@
 use Rattle.std.proofs.Common.{arith}
-use Rattle.tdm_problem.proofs.CutRows.{row_pushed}
-use Rattle.tdm_problem.proofs.rows.Rows.push_row.Goals as goal
+use Rattle.flat_rows.proofs.CutRows.{row_pushed}
+use Rattle.flat_rows.proofs.rows.FlatRows.push_row.Goals as goal
 
 pub invariant_of-self-else-is_err : goal.invariant_of-self-else-is_err
 invariant_of-self-else-is_err g c =

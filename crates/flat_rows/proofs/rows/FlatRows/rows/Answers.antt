@@ -1,6 +1,6 @@
 use Rattle.std.proofs.Common.{length, ap, arith}
-use Rattle.tdm_problem.proofs.CutRows.{length-rows_from}
-use Rattle.tdm_problem.proofs.rows.Rows.rows.Goals as goal
+use Rattle.flat_rows.proofs.CutRows.{length-rows_from}
+use Rattle.flat_rows.proofs.rows.FlatRows.rows.Goals as goal
 
 pub returns : goal.returns
 returns g c = omega (arith, c.len.ensures, ap length c.self.view_is, length-rows_from 0 c.self.inside.ends.items c.self.inside.items.items)

@@ -1,7 +1,7 @@
 use Rattle.std.proofs.Common.{List, ◌<◌, ◌+◌, ◌∙◌, ap, length, arith}
-use Rattle.tdm_problem.specs.Rows.{start_of_row}
-use Rattle.tdm_problem.proofs.CutRows.{row_written, end-there}
-use Rattle.tdm_problem.proofs.rows.Rows.set.Goals as goal
+use Rattle.flat_rows.specs.Rows.{start_of_row}
+use Rattle.flat_rows.proofs.CutRows.{row_written, end-there}
+use Rattle.flat_rows.proofs.rows.FlatRows.set.Goals as goal
 
 pub start_of-start-requires : goal.start_of-start-requires
 start_of-start-requires g c = rw c.deref.ensures.value (end-there _ _ c.self.view_is c.requires.row_there)

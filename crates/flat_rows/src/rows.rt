@@ -1,20 +1,20 @@
 //! Rows of items, kept one after another in one list.
 ghost use Rattle.std.specs.Prelude.{◌≡◌, ◌<◌, ◌≤◌, [], ◌∷◌, ◌++◌, length, slice_get, slice_index_or, slice_range, slice_set, Some, IfOk, OnOk, OnErr};
-ghost use Rattle.tdm_problem.specs.Rows.{start_of_row};
+ghost use Rattle.flat_rows.specs.Rows.{start_of_row};
 
 use std::alloc::{AllocError, Global};
 use std::marker::Model;
 
 /// A list of rows that grows at its end. All items stand in one list, and beside it the end of each row.
 #[derive(Drop)]
-pub(crate) struct Rows<T: Copy> {
+pub struct FlatRows<T: Copy> {
     items: Vec<T>,
     ends: Vec<usize>,
 }
 
-impl<T: Copy> Model for Rows<T> {
+impl<T: Copy> Model for FlatRows<T> {
     ghost use Rattle.std.specs.Prelude.{List};
-    ghost use Rattle.tdm_problem.specs.Rows.{rows_from, IsCutFrom};
+    ghost use Rattle.flat_rows.specs.Rows.{rows_from, IsCutFrom};
 
     ghost Value = { List (List T) };
 
@@ -23,26 +23,26 @@ impl<T: Copy> Model for Rows<T> {
     ghost invariant = { λ r. IsCutFrom 0 r.ends.items r.items.items };
 }
 
-impl<T: Copy> Rows<T> {
+impl<T: Copy> FlatRows<T> {
     /// No rows.
-    pub(crate) fn new(alloc: Global) -> Rows<T>
+    pub fn new(alloc: Global) -> FlatRows<T>
         ensures { result ≡ [] }
     {
-        Rows {
+        FlatRows {
             items: Vec::new(alloc),
             ends: Vec::new(alloc),
         }
     }
 
     /// How many rows there are.
-    pub(crate) fn rows(&self) -> usize
+    pub fn rows(&self) -> usize
         ensures { result ≡ length self.now }
     {
         self.ends.len()
     }
 
     /// Adds a row after the others. They are unchanged where memory is wanting.
-    pub(crate) fn push_row(&mut self, row: &[T]) -> Result<(), AllocError>
+    pub fn push_row(&mut self, row: &[T]) -> Result<(), AllocError>
         ensures ok { OnOk result (self.new ≡ self.old ++ row.now ∷ []) }
         ensures err { OnErr result (self.new ≡ self.old) }
     {
@@ -56,7 +56,7 @@ impl<T: Copy> Rows<T> {
     }
 
     /// Row `i`, counted from 0.
-    pub(crate) fn row(&self, i: usize) -> &[T]
+    pub fn row(&self, i: usize) -> &[T]
         requires { i < length self.now }
         ensures there { slice_get self.now i ≡ Some result.now }
         ensures value { slice_index_or self.now i [] ≡ result.now }
@@ -66,7 +66,7 @@ impl<T: Copy> Rows<T> {
     }
 
     /// Writes an item over the one at a place of row `i`.
-    pub(crate) fn set(&mut self, i: usize, place: usize, item: T)
+    pub fn set(&mut self, i: usize, place: usize, item: T)
         requires row_there { i < length self.old }
         requires place_there { place < length (slice_index_or self.old i []) }
         ensures { self.new ≡ slice_set self.old i (slice_set (slice_index_or self.old i []) place item) }
@@ -76,12 +76,12 @@ impl<T: Copy> Rows<T> {
     }
 
     /// The same rows in memory of their own.
-    pub(crate) fn copy(&self, alloc: Global) -> Result<Rows<T>, AllocError>
+    pub fn copy(&self, alloc: Global) -> Result<FlatRows<T>, AllocError>
         ensures { IfOk result (λ rows. rows ≡ self.now) }
     {
         let items = Vec::from_slice(alloc, &self.items)?;
         let ends = Vec::from_slice(alloc, &self.ends)?;
-        Ok(Rows { items, ends })
+        Ok(FlatRows { items, ends })
     }
 }
 

@@ -2,7 +2,7 @@ use Rattle.std.proofs.Common.{◌≡◌, ◌≢◌, ℕ, zero, suc, ◌+◌, ◌
 use Rattle.std.specs.Prelude.{slice_get, slice_index, slice_index_or, slice_set, slice_range}
 use Rattle.std.proofs.lemmas.List.{take-append-le, drop-append-le, take_all, length-take-le, drop-set-lt, drop-set-add, take-set-le, get_or_read}
 use Rattle.std.proofs.Math.Seq.{drop-append_seam, take-set-lt}
-use Rattle.tdm_problem.specs.Rows.{rows_from, IsCutFrom, start_of_row}
+use Rattle.flat_rows.specs.Rows.{rows_from, IsCutFrom, start_of_row}
 
 -- there is a row for each end
 pub length-rows_from : {X : Type 0} (start : ℕ) (ends : List ℕ) (items : List X) → length (rows_from start ends items) ≡ length ends
