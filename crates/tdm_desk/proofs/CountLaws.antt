@@ -1,7 +1,9 @@
 -- What is known of a desk's counts over several calls.
-use Rattle.std.proofs.Common.{◌∙◌, refl, arith}
+use Rattle.std.proofs.Common.{◌≡◌, ◌∙◌, refl, ap, arith}
+use Rattle.tdm_desk.specs.declared.calls.DeskFault.{DeskFault}
+use Rattle.tdm_desk.specs.declared.calls.DeskFault.TheVariants.{Failed, NoMemory}
 use Rattle.tdm_desk.specs.declared.slots.InSlot.{InSlot}
-use Rattle.tdm_desk.specs.Counts.{Counts, CountsFaults, ReadingFailed, WritingFailed}
+use Rattle.tdm_desk.specs.Counts.{Counts, CountsFaults, CountsReadFault, CountsWriteFault, ReadingFailed, WritingFailed, with_read_faults, with_write_faults}
 
 module _ {D : Type 0} {counts : D → Counts} {steady : D → Type 0} where
   -- of no call at all
@@ -49,3 +51,14 @@ module _ {D : Type 0} {counts : D → Counts} {steady : D → Type 0} where
   }
 
   pub ruleset counting_faults = (counts_nothing, counts_both, reading_failed_later, reading_failed_before, writing_failed_later, writing_failed_before)
+
+module _ {D : Type 0} (counts : D → Counts) (before between after : D) where
+  -- calls that left every count, and then a fault of an input
+  pub read_fault_later : (slot : InSlot) (fault : DeskFault) → counts between ≡ counts before → CountsReadFault counts slot fault between after → CountsReadFault counts slot fault before after
+  read_fault_later slot NoMemory first own = own ∙ first
+  read_fault_later slot Failed first own = (own.0, own.1 ∙ ap (with_read_faults slot own.0) first)
+
+  -- calls that left every count, and then a fault of what is written or said
+  pub write_fault_later : (fault : DeskFault) → counts between ≡ counts before → CountsWriteFault counts fault between after → CountsWriteFault counts fault before after
+  write_fault_later NoMemory first own = own ∙ first
+  write_fault_later Failed first own = (own.0, own.1 ∙ ap (with_write_faults own.0) first)

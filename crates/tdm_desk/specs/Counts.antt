@@ -1,8 +1,10 @@
 -- The counts of a desk's faults, and what may be known of them over any number of its calls.
-use Rattle.std.specs.Prelude.{◌≡◌, ℕ, ◌+◌, ◌-◌, ◌^◌, ◌≤◌, min}
+use Rattle.std.specs.Prelude.{◌≡◌, ℕ, ◌+◌, ◌-◌, ◌^◌, ◌≤◌, min, Result, Ok, Err}
+use Rattle.tdm_desk.specs.declared.calls.DeskFault.{DeskFault}
+use Rattle.tdm_desk.specs.declared.calls.DeskFault.TheVariants.{Failed, NoMemory}
 use Rattle.tdm_desk.specs.declared.slots.InSlot.{InSlot}
 use Rattle.tdm_desk.specs.declared.slots.Slots.{Slots}
-use Rattle.tdm_desk.specs.Slots.{at, input_place}
+use Rattle.tdm_desk.specs.Slots.{at, put, input_place}
 
 -- how many faults there were so far: of each input, and of all that is written or said
 pub record Counts : Type 0 where
@@ -16,6 +18,14 @@ read_faults slot counts = at (input_place slot) counts.reading
 -- the faults of all that is written or said
 unfoldable pub write_faults : Counts → ℕ
 write_faults counts = counts.writing
+
+-- the counts with another number of faults of one input
+unfoldable pub with_read_faults : InSlot → ℕ → Counts → Counts
+with_read_faults slot faults counts = record counts { reading = put (input_place slot) faults counts.reading }
+
+-- the counts with another number of faults of all that is written or said
+unfoldable pub with_write_faults : ℕ → Counts → Counts
+with_write_faults faults counts = record counts { writing = faults }
 
 -- where a count stops: it is kept in 64 bits
 unfoldable pub last_count : ℕ
@@ -42,3 +52,24 @@ module _ {D : Type 0} (counts : D → Counts) (steady : D → Type 0) where
   pub record WritingFailed (before after : D) : Type 0 where
     pub rose : Rose (write_faults (counts before)) (write_faults (counts after))
     pub unsteady : steady before → ⊥
+
+module _ {D : Type 0} (counts : D → Counts) where
+  -- a fault of an input changed no count but that of this input, and want of memory changed none
+  abbrev pub CountsReadFault : InSlot → DeskFault → D → D → Type 0
+  CountsReadFault slot NoMemory before after = counts after ≡ counts before
+  CountsReadFault slot Failed before after = (faults : ℕ) × (counts after ≡ with_read_faults slot faults (counts before))
+
+  -- the same of a call that answers, where every count stands if there was no fault
+  abbrev pub CountsOnlyReading : {A : Type 0} → InSlot → Result A DeskFault → D → D → Type 0
+  CountsOnlyReading slot (Ok answer) before after = counts after ≡ counts before
+  CountsOnlyReading slot (Err fault) before after = CountsReadFault slot fault before after
+
+  -- a fault of what is written or said changed no count but its own, and want of memory changed none
+  abbrev pub CountsWriteFault : DeskFault → D → D → Type 0
+  CountsWriteFault NoMemory before after = counts after ≡ counts before
+  CountsWriteFault Failed before after = (faults : ℕ) × (counts after ≡ with_write_faults faults (counts before))
+
+  -- the same of a call that answers, where every count stands if there was no fault
+  abbrev pub CountsOnlyWriting : {A : Type 0} → Result A DeskFault → D → D → Type 0
+  CountsOnlyWriting (Ok answer) before after = counts after ≡ counts before
+  CountsOnlyWriting (Err fault) before after = CountsWriteFault fault before after

@@ -3,7 +3,7 @@ ghost use Rattle.std.specs.Prelude.{◌≡◌, ◌≤◌, ◌<◌, ◌↔◌, �
 ghost use Rattle.std.specs.Option.{ForSome};
 ghost use Rattle.std.specs.FinMap.{contains_key};
 ghost use Rattle.tdm_desk.specs.Seen.{Seen, opened, input_closed, taken, created, output_closed, written, said, input_is_open, output_is_open, files_of, rest_of};
-ghost use Rattle.tdm_desk.specs.Counts.{Counts, CountsFaults, ReadingFailed, WritingFailed};
+ghost use Rattle.tdm_desk.specs.Counts.{Counts, CountsFaults, CountsOnlyReading, CountsOnlyWriting, ReadingFailed, WritingFailed};
 ghost use Rattle.tdm_desk.specs.declared.calls.DeskFault.TheVariants.{NoMemory};
 
 use crate::slots::{InSlot, OutSlot};
@@ -54,6 +54,7 @@ pub trait Desk {
         ensures err { OnErr result (seen self.new ≡ input_closed slot (seen self.old)) }
         ensures failed { IsErrOf result DeskFault.Failed →
             ReadingFailed counts steady slot self.old self.new }
+        ensures own { CountsOnlyReading counts slot result self.old self.new }
         ensures counted { CountsFaults counts steady self.old self.new };
 
     /// Reads the next bytes of an open input to the front of `buf`, and answers how many.
@@ -71,6 +72,7 @@ pub trait Desk {
         ensures err { OnErr result (seen self.new ≡ seen self.old) }
         ensures failed { IsErrOf result DeskFault.Failed →
             ReadingFailed counts steady slot self.old self.new }
+        ensures own { CountsOnlyReading counts slot result self.old self.new }
         ensures counted { CountsFaults counts steady self.old self.new };
 
     /// Makes the file of this name empty, and opens it as an output.
@@ -81,6 +83,7 @@ pub trait Desk {
         ensures err { OnErr result (seen self.new ≡ output_closed slot (seen self.old)) }
         ensures failed { IsErrOf result DeskFault.Failed →
             WritingFailed counts steady self.old self.new }
+        ensures own { CountsOnlyWriting counts result self.old self.new }
         ensures counted { CountsFaults counts steady self.old self.new };
 
     /// Adds the first bytes of `piece` to the file of an open output, and answers how many.
@@ -96,6 +99,7 @@ pub trait Desk {
         ensures err { OnErr result (seen self.new ≡ seen self.old) }
         ensures failed { IsErrOf result DeskFault.Failed →
             WritingFailed counts steady self.old self.new }
+        ensures own { CountsOnlyWriting counts result self.old self.new }
         ensures counted { CountsFaults counts steady self.old self.new };
 
     /// Closes an open output, whose file keeps its bytes. It is closed after a fault too.
@@ -104,6 +108,7 @@ pub trait Desk {
         ensures closed { seen self.new ≡ output_closed slot (seen self.old) }
         ensures failed { IsErrOf result DeskFault.Failed →
             WritingFailed counts steady self.old self.new }
+        ensures own { CountsOnlyWriting counts result self.old self.new }
         ensures counted { CountsFaults counts steady self.old self.new };
 
     /// Says the first bytes of `piece` to the user, and answers how many.
@@ -118,5 +123,6 @@ pub trait Desk {
         ensures err { OnErr result (seen self.new ≡ seen self.old) }
         ensures failed { IsErrOf result DeskFault.Failed →
             WritingFailed counts steady self.old self.new }
+        ensures own { CountsOnlyWriting counts result self.old self.new }
         ensures counted { CountsFaults counts steady self.old self.new };
 }

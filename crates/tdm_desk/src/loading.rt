@@ -2,7 +2,7 @@
 ghost use Rattle.std.specs.Prelude.{◌≡◌, ◌≤◌, ◌<◌, ◌+◌, ◌^◌, ◌++◌, [], length, take, vec_len, IsTrue, IfOk, OnOk, OnErr, IsErrOf};
 ghost use Rattle.std.specs.Option.{ForSome};
 ghost use Rattle.tdm_desk.specs.Seen.{input_is_open, rest_of, taken, SomeTaken};
-ghost use Rattle.tdm_desk.specs.Counts.{CountsFaults, ReadingFailed};
+ghost use Rattle.tdm_desk.specs.Counts.{CountsFaults, CountsOnlyReading, ReadingFailed};
 
 use crate::calls::{Desk, DeskFault};
 use crate::slots::InSlot;
@@ -31,6 +31,7 @@ pub fn load<D: Desk>(
     ensures err { OnErr result (SomeTaken slot (D.seen desk.old) (D.seen desk.new)) }
     ensures failed { IsErrOf result DeskFault.Failed →
         ReadingFailed D.counts D.steady slot desk.old desk.new }
+    ensures own { CountsOnlyReading D.counts slot result desk.old desk.new }
     ensures counted { CountsFaults D.counts D.steady desk.old desk.new }
 {
     let most = limit as usize + 1;
@@ -65,6 +66,7 @@ fn load_piece<D: Desk>(
     ensures err { OnErr result (SomeTaken slot (D.seen desk.old) (D.seen desk.new)) }
     ensures failed { IsErrOf result DeskFault.Failed →
         ReadingFailed D.counts D.steady slot desk.old desk.new }
+    ensures own { CountsOnlyReading D.counts slot result desk.old desk.new }
     ensures counted { CountsFaults D.counts D.steady desk.old desk.new }
 {
     let count = desk.read(slot, buffer)?;

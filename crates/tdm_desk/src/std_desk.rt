@@ -1,7 +1,7 @@
 //! The desk of real files and the standard output.
-ghost use Rattle.std.specs.Prelude.{◌≡◌, ◌≤◌, length, IsTrue, IfOk, is_some, false};
+ghost use Rattle.std.specs.Prelude.{◌≡◌, ◌≤◌, ℕ, length, IsTrue, IfOk, is_some, false};
 ghost use Rattle.tdm_desk.specs.Slots.{at, put};
-ghost use Rattle.tdm_desk.specs.Counts.{Rose, CountsFaults, ReadingFailed, WritingFailed};
+ghost use Rattle.tdm_desk.specs.Counts.{Rose, CountsFaults, ReadingFailed, WritingFailed, with_read_faults, with_write_faults};
 ghost use Rattle.tdm_desk.specs.RealDesk.{untouched, seen_of_real, counts_of_real, never};
 
 use crate::calls::{Desk, DeskFault};
@@ -127,6 +127,7 @@ impl<R: Files + Print + Drop> StdDesk<R> {
     fn count_read_fault(&mut self, slot: InSlot)
         ensures seen { seen_of_real self.new ≡ seen_of_real self.old }
         ensures failed { ReadingFailed counts_of_real never slot self.old self.new }
+        ensures own { (faults : ℕ) × (self.new.counts ≡ with_read_faults slot faults self.old.counts) }
         ensures counted { CountsFaults counts_of_real never self.old self.new }
     {
         let place = slot.place();
@@ -138,6 +139,7 @@ impl<R: Files + Print + Drop> StdDesk<R> {
     fn count_write_fault(&mut self)
         ensures seen { seen_of_real self.new ≡ seen_of_real self.old }
         ensures failed { WritingFailed counts_of_real never self.old self.new }
+        ensures own { (faults : ℕ) × (self.new.counts ≡ with_write_faults faults self.old.counts) }
         ensures counted { CountsFaults counts_of_real never self.old self.new }
     {
         self.write_faults = raised(self.write_faults);

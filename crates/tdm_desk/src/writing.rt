@@ -1,7 +1,7 @@
 //! Writing and saying a whole piece, however small the steps that a desk takes.
 ghost use Rattle.std.specs.Prelude.{◌≡◌, IsTrue, OnOk, OnErr, IsErrOf};
 ghost use Rattle.tdm_desk.specs.Seen.{output_is_open, written, said, PrefixWritten, PrefixSaid};
-ghost use Rattle.tdm_desk.specs.Counts.{CountsFaults, WritingFailed};
+ghost use Rattle.tdm_desk.specs.Counts.{CountsFaults, CountsOnlyWriting, WritingFailed};
 
 use crate::calls::{Desk, DeskFault};
 use crate::slots::OutSlot;
@@ -15,6 +15,7 @@ pub fn write_whole<D: Desk>(desk: &mut D, slot: OutSlot, piece: &[u8]) -> Result
     ensures err { OnErr result (PrefixWritten slot piece.now (D.seen desk.old) (D.seen desk.new)) }
     ensures failed { IsErrOf result DeskFault.Failed →
         WritingFailed D.counts D.steady desk.old desk.new }
+    ensures own { CountsOnlyWriting D.counts result desk.old desk.new }
     ensures counted { CountsFaults D.counts D.steady desk.old desk.new }
 {
     let mut done = 0;
@@ -32,6 +33,7 @@ pub fn say_whole<D: Desk>(desk: &mut D, piece: &[u8]) -> Result<(), DeskFault>
     ensures err { OnErr result (PrefixSaid piece.now (D.seen desk.old) (D.seen desk.new)) }
     ensures failed { IsErrOf result DeskFault.Failed →
         WritingFailed D.counts D.steady desk.old desk.new }
+    ensures own { CountsOnlyWriting D.counts result desk.old desk.new }
     ensures counted { CountsFaults D.counts D.steady desk.old desk.new }
 {
     let mut done = 0;

@@ -1,6 +1,6 @@
 use Rattle.std.proofs.Common.{arith, sym, ◌∙◌, ap, refl, length-take, ◌+◌}
 use Rattle.std.proofs.lemmas.Result.{err_from_is_err_and}
-use Rattle.tdm_desk.proofs.CountLaws.{counts_nothing, counts_both}
+use Rattle.tdm_desk.proofs.CountLaws.{counts_nothing, counts_both, read_fault_later}
 use Rattle.tdm_desk.proofs.SeenLaws.{taken-none}
 use Rattle.tdm_desk.proofs.StepLaws.{still_open_input}
 use Rattle.tdm_desk.proofs.LoadLaws.{Loads, loads_nothing, loads_more, loads_end, loads_same, lost_more}
@@ -17,6 +17,7 @@ loop-slot-init g c = record {
   in_range = omega (arith, c.new-bytes.ensures.len);
   buffer_len = refl;
   loads = loads_nothing _ _ _ _ c.new-bytes.ensures.len c.new-bytes.ensures.items;
+  uncounted = refl;
   counted = counts_nothing _;
 }
 
@@ -33,6 +34,7 @@ loop-slot-preserved g c = record {
   in_range = omega (arith, c.loop-slot.invariant.in_range, c.in_ok-count.ensures.more, c.in_ok-count.ensures.within, length-take c.min-wanted.result c.deref_mut.result.now);
   buffer_len = c.loop-slot.invariant.buffer_len;
   loads = loads_more _ _ _ _ _ _ _ _ _ c.loop-slot.invariant.loads c.in_ok-count.ensures.more c.in_ok-count.ensures.ok c.in_ok-count.ensures.bytes;
+  uncounted = c.in_ok-count.ensures.own ∙ c.loop-slot.invariant.uncounted;
   counted = counts_both c.loop-slot.invariant.counted c.load_piece.ensures.counted;
 }
 
@@ -53,3 +55,14 @@ returns-clause-ok g c = (loaded g c).seen_is
 
 pub returns-clause-bytes : goal.returns-clause-bytes
 returns-clause-bytes g c = (loaded g c).bytes_are
+
+pub returns-in_err-count-clause-own : goal.returns-in_err-count-clause-own
+returns-in_err-count-clause-own g c =
+    let p = err_from_is_err_and c.from_residual-in_err-count.result c.from_residual-in_err-count.ensures.1 in
+    rw (p.1, p.2) (read_fault_later g.D.Desk.counts _ _ _ _ _ c.loop-slot.invariant.uncounted c.in_err-count.ensures.own)
+
+pub returns-clause-own : goal.returns-clause-own
+returns-clause-own g c = elim c.loop-slot-test.branch [
+  | else-loop-slot-test w ↦ ap g.D.Desk.counts w.desk-is ∙ c.loop-slot.invariant.uncounted
+  | then-loop-slot-test+in_ok-count+then-count-eq0 w ↦ ap g.D.Desk.counts w.desk-is ∙ w.in_ok-count.ensures.own ∙ c.loop-slot.invariant.uncounted
+]

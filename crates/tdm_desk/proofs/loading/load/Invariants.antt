@@ -8,6 +8,7 @@ invariant-loop-slot g l = record {
   in_range : vec_len l.bytes ≤ l.most;
   buffer_len : vec_len l.buffer ≡ vec_len l.initial.buffer;
   loads : Loads l.slot (g.D.Desk.seen l.initial.desk) (g.D.Desk.seen l.desk) (vec_len l.bytes) l.bytes.items;
+  uncounted : g.D.Desk.counts l.desk ≡ g.D.Desk.counts l.initial.desk;
   counted : CountsFaults g.D.Desk.counts g.D.Desk.steady l.initial.desk l.desk;
 }
 

@@ -7,6 +7,7 @@ abbrev pub invariant-loop-done : goal.invariant-loop-done
 invariant-loop-done g l = record {
   in_range : l.done ≤ length l.piece;
   seen_is : g.D.Desk.seen l.desk ≡ written l.slot (take l.done l.piece) (g.D.Desk.seen l.initial.desk);
+  uncounted : g.D.Desk.counts l.desk ≡ g.D.Desk.counts l.initial.desk;
   counted : CountsFaults g.D.Desk.counts g.D.Desk.steady l.initial.desk l.desk;
 }
 
