@@ -1,5 +1,6 @@
 pub mod AppendLemmas
 pub mod LineSteps
+pub mod PendingLemmas
 pub mod PieceSteps
 pub mod ScanSteps
 pub mod TextLemmas

@@ -37,7 +37,7 @@ TokenSoFar-push bytes at end max reading next h lt byte step =
       read = step (slice_range bytes at end) h.read ∙ sym (ap (reading_of max) range);
     }
 
-length-range : (bytes : List ℕ) (at end : ℕ) → at < end → end ≤ length bytes → 0 < length (slice_range bytes at end)
+pub length-range : (bytes : List ℕ) (at end : ℕ) → at < end → end ≤ length bytes → 0 < length (slice_range bytes at end)
 length-range bytes at end lt le = grind (arith, common_steps)
 
 -- where no byte of a token follows, the token is whole

@@ -1,5 +1,6 @@
 pub mod Digits
 pub mod Lines
+pub mod Pending
 pub mod Scan
 pub mod Tokens
 pub mod Written

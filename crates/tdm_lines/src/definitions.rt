@@ -2,6 +2,8 @@
 ghost use Rattle.std.specs.Prelude.{◌≡◌, [], ◌∷◌, codes, None, Some};
 ghost use Rattle.tdm_lines.specs.Digits.{digits};
 ghost use Rattle.tdm_lines.specs.Lines.{BadNumber, NumberTooLarge, line_after, lines};
+ghost use Rattle.tdm_lines.specs.Pending.{ending, unfinished};
+ghost use Rattle.tdm_lines.specs.declared.pushed.TokenEnd.TheVariants.{Bad, Large, Number};
 ghost use Rattle.tdm_lines.specs.Tokens.{tokens, value};
 ghost use Rattle.tdm_lines.specs.Written.{line_text};
 
@@ -22,6 +24,16 @@ fn lines_have_a_token_each()
         ∷ record { number = 2; fault = Some NumberTooLarge; numbers = [] }
         ∷ record { number = 3; fault = Some BadNumber; numbers = [] } ∷ [] }
     ensures none { lines 5 (codes "") ≡ [] }
+{}
+
+/// A text may end in a token, of which it is known what it is if nothing comes after it.
+fn the_last_token_may_be_unfinished()
+    ensures open { unfinished (codes "1\n2 02") ≡ codes "02" }
+    ensures ended { unfinished (codes "1 02\t") ≡ [] }
+    ensures largest { ending 9 (codes "09") ≡ Some (Number 9) }
+    ensures larger { ending 9 (codes "10") ≡ Some Large }
+    ensures bad { ending 9 (codes "9x") ≡ Some Bad }
+    ensures nothing { ending 9 (codes "") ≡ None }
 {}
 
 /// The number of the last piece is one more than that of the line feeds.

@@ -10,6 +10,7 @@ mod cursor;
 mod definitions;
 mod digits;
 mod line;
+mod pushed;
 mod scan;
 #[cfg(test)]
 mod tests;
@@ -17,3 +18,4 @@ mod tests;
 pub use cursor::{FoundLine, LineCursor};
 pub use digits::{Digits, decimal};
 pub use line::{TokenFault, TokenLine, line_after, token_lines};
+pub use pushed::{Scan, ScanStep, TokenEnd};

@@ -25,7 +25,7 @@ pub(crate) struct Piece {
 
 /// Whether the byte is part of a token: neither a blank nor a line feed.
 #[inline]
-fn is_token_byte(byte: u8) -> bool
+pub(crate) fn is_token_byte(byte: u8) -> bool
     ensures { result ≡ is_token_byte byte }
 {
     !matches!(byte, b'\n' | b' ' | b'\t' | b'\r')
@@ -55,7 +55,11 @@ fn with_digit(before: u64, digit: u8, max: u64) -> Result<u64, TokenFault>
 
 /// The reading of a token that has one more byte.
 #[inline]
-fn extend(reading: Result<u64, TokenFault>, byte: u8, max: u64) -> Result<u64, TokenFault>
+pub(crate) fn extend(
+    reading: Result<u64, TokenFault>,
+    byte: u8,
+    max: u64,
+) -> Result<u64, TokenFault>
     ensures { (token : List ℕ) → reading ≡ reading_of max token →
         result ≡ reading_of max (token ++ byte ∷ []) }
 {

@@ -1,6 +1,8 @@
 ghost use Rattle.std.specs.Prelude.{◌≤◌, ◌^◌, length};
 
-use crate::{FoundLine, LineCursor, TokenFault, decimal, line_after, token_lines};
+use crate::{
+    FoundLine, LineCursor, Scan, ScanStep, TokenEnd, TokenFault, decimal, line_after, token_lines,
+};
 use std::alloc::Global;
 use std::process::Abort;
 use std::test::Fail;
@@ -109,4 +111,37 @@ fn reads_one_line_at_a_time_into_one_buffer(rt: HostRuntime) -> Result<(), Fail>
     assert_eq!(rt; cursor.next_line(&mut numbers)?, None);
     assert_eq!(rt; numbers.len(), 0);
     Ok(())
+}
+
+#[test]
+fn tells_what_each_byte_ends(rt: HostRuntime) {
+    let mut scan = Scan::new(9);
+    let nothing = ScanStep {
+        token: None,
+        line_end: false,
+    };
+    let large = ScanStep {
+        token: Some(TokenEnd::Large),
+        line_end: false,
+    };
+    let bad = ScanStep {
+        token: Some(TokenEnd::Bad),
+        line_end: true,
+    };
+    for (byte, wanted) in [
+        (b'1', nothing),
+        (b'0', nothing),
+        (b' ', large),
+        (b'x', nothing),
+        (b'\n', bad),
+        (b'7', nothing),
+    ] {
+        assert!(rt; scan.line() < 9);
+        assert!(rt; scan.push(byte) == wanted, "byte {byte}");
+    }
+    assert!(rt; scan.finish() == Some(TokenEnd::Number(7)));
+    assert!(rt; scan.finish() == None);
+    assert_eq!(rt; scan.line(), 2);
+    assert_eq!(rt; scan.push_token(b"12 3", 0), 2);
+    assert!(rt; scan.finish() == Some(TokenEnd::Large));
 }
