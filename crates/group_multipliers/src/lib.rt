@@ -1,0 +1,11 @@
+//! The weights of the groups for the next round.
+#![tactic(auto)]
+
+#[cfg(test)]
+mod definitions;
+mod renewal;
+
+pub use renewal::next_weights;
+
+#[cfg(test)]
+mod tests;
