@@ -79,7 +79,7 @@ IsCutFrom-push start [] items row cut = (omega (arith, cut, length-append items 
 IsCutFrom-push start (end ∷ ends) items row cut = (cut.0, IsCutFrom-push end ends items row cut.1)
 
 -- a range within the first part of a list
-slice_range-append : {X : Type 0} (xs ys : List X) (i j : ℕ) → i ≤ j → j ≤ length xs → slice_range (xs ++ ys) i j ≡ slice_range xs i j
+pub slice_range-append : {X : Type 0} (xs ys : List X) (i j : ℕ) → i ≤ j → j ≤ length xs → slice_range (xs ++ ys) i j ≡ slice_range xs i j
 slice_range-append xs ys i j h k =
     let within : i ≤ length xs = omega arith in
     let short : j - i ≤ length (drop i xs) = omega (arith, length-drop i xs) in

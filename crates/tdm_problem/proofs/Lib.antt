@@ -11,3 +11,5 @@ pub mod Tangents
 pub mod Evens
 pub mod Users
 pub mod Exchanges
+pub mod Pools
+pub mod LoadLaws

@@ -14,3 +14,5 @@ pub mod Weights
 pub mod Roots
 pub mod Users
 pub mod Laws
+pub mod Pool
+pub mod Loads

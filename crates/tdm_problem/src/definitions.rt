@@ -5,6 +5,7 @@ ghost use Rattle.tdm_problem.specs.Board.{IsBoard, without_repeats};
 ghost use Rattle.tdm_problem.specs.Distance.{IsDistance, IsHopCount};
 ghost use Rattle.tdm_problem.specs.Fit.{FitsLanes};
 ghost use Rattle.tdm_problem.specs.Legal.{AllConnectable, IsLegal, source_of};
+ghost use Rattle.tdm_problem.specs.Loads.{load_cost, load_of, marginal_length, without_net};
 ghost use Rattle.tdm_problem.specs.Routing.{ratios_on, with_ratio};
 ghost use Rattle.tdm_problem.specs.Sums.{sum_below};
 ghost use Rattle.tdm_problem.specs.Roots.{IsRoot, root_of};
@@ -103,6 +104,16 @@ fn weights_add_up()
     ensures sums { weighted_sums (on_wire_0 (2 ∷ 4 ∷ 6 ∷ [])) ((0 ∷ 1 ∷ 2 ∷ []) ∷ (1 ∷ []) ∷ [])
         (5 ∷ 7 ∷ []) ≡ 88 }
     ensures below { sum_below 4 (λ n. n * n) ≡ 14 }
+{}
+
+/// A wire is loaded with the numbers of the nets whose tree has it, and costs the square of its load.
+fn loads_are_sums_over_nets()
+    ensures both { load_of ((0 ∷ []) ∷ (0 ∷ 1 ∷ []) ∷ []) (5 ∷ 7 ∷ []) 0 ≡ 12 }
+    ensures second { load_of ((0 ∷ []) ∷ (0 ∷ 1 ∷ []) ∷ []) (5 ∷ 7 ∷ []) 1 ≡ 7 }
+    ensures without { load_of (without_net ((0 ∷ []) ∷ (0 ∷ 1 ∷ []) ∷ []) 0) (5 ∷ 7 ∷ []) 0 ≡ 7 }
+    ensures marginal { marginal_length ((0 ∷ []) ∷ (0 ∷ 1 ∷ []) ∷ []) (5 ∷ 7 ∷ []) 0 0 ≡ 19 }
+    ensures cost { load_cost doubled ((0 ∷ []) ∷ (0 ∷ 1 ∷ []) ∷ []) (5 ∷ 7 ∷ []) ≡ 193 }
+    ensures lighter { load_cost doubled ((0 ∷ []) ∷ (1 ∷ []) ∷ []) (5 ∷ 7 ∷ []) ≡ 74 }
 {}
 
 /// A root is rounded down.

@@ -51,3 +51,18 @@ fn trees_copy_what_is_pushed(rt: HostRuntime) -> Result<(), Fail> {
     assert_eq!(rt; copy.wires_of(0), [0, 2].as_slice());
     Ok(())
 }
+
+#[test]
+fn a_net_gets_other_wires(rt: HostRuntime) -> Result<(), Fail> {
+    let mut trees = Trees::new(rt.alloc());
+    trees.push_net(&[0, 2])?;
+    trees.push_net(&[3])?;
+    trees.replace(0, &[1])?;
+    trees.replace(1, &[0, 1, 2, 4])?;
+    let copy = trees.copy(rt.alloc())?;
+    trees.replace(0, &[])?;
+    assert_eq!(rt; copy.wires_of(0), [1].as_slice());
+    assert_eq!(rt; copy.wires_of(1), [0, 1, 2, 4].as_slice());
+    assert_eq!(rt; trees.wires_of(0).len(), 0);
+    Ok(())
+}

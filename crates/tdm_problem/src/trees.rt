@@ -1,17 +1,18 @@
 //! The wires of each net, without ratios.
-ghost use Rattle.std.specs.Prelude.{◌≡◌, ◌<◌, ◌≤◌, [], ◌∷◌, ◌++◌, length, slice_get, slice_index_or, Some, IfOk, OnOk, OnErr};
+ghost use Rattle.std.specs.Prelude.{◌≡◌, ◌<◌, ◌≤◌, [], ◌∷◌, ◌++◌, length, slice_get, slice_set, Some, IfOk, OnOk, OnErr};
 ghost use Rattle.std.specs.List.Sorted.{IsStrictlyIncreasing};
 ghost use Rattle.tdm_problem.specs.Limits.{most_nets};
 ghost use Rattle.tdm_problem.specs.Trees.{tree_of, HasRisingRows};
 
-use flat_rows::FlatRows;
+use crate::pool::Pool;
 use std::alloc::{AllocError, Global};
 use std::marker::Model;
 
-/// Net by net the wires that it uses, at most [`MAX_NETS`] nets. The wires of a net rise strictly.
+/// Net by net the wires that it uses, at most [`MAX_NETS`] nets. The wires of a net rise strictly. A net may get
+/// other wires at any time.
 #[derive(Drop)]
 pub struct Trees {
-    wires: FlatRows<u32>,
+    wires: Pool,
 }
 
 impl Model for Trees {
@@ -31,7 +32,7 @@ impl Trees {
         ensures { result ≡ [] }
     {
         Trees {
-            wires: FlatRows::new(alloc),
+            wires: Pool::new(alloc),
         }
     }
 
@@ -62,6 +63,17 @@ impl Trees {
         ensures all_rising { HasRisingRows self.new }
     {
         self.wires.push_row(wires)
+    }
+
+    /// Gives net `n` other wires, rising strictly. The trees are unchanged where memory is wanting.
+    pub fn replace(&mut self, n: u32, wires: &[u32]) -> Result<(), AllocError>
+        requires there { n < length self.old }
+        requires rising { IsStrictlyIncreasing wires.now }
+        ensures ok { OnOk result (self.new ≡ slice_set self.old n wires.now) }
+        ensures err { OnErr result (self.new ≡ self.old) }
+        ensures all_rising { HasRisingRows self.new }
+    {
+        self.wires.replace(n as usize, wires)
     }
 
     /// The same trees in memory of their own.
