@@ -13,6 +13,9 @@ use Rattle.std.proofs.lemmas.Map.Views.{All-keys-insert_entry, All-values-insert
 use Rattle.recip_sum.specs.Counts.{items, with_item, without_item}
 use Rattle.recip_sum.specs.Items.{counted, items_of, one_less, SameReciprocals}
 use Rattle.recip_sum.specs.Kept.{AreCounts, IsRatio}
+use Rattle.recip_sum.specs.Rounded.{floor_of, floor_sum}
+use Rattle.std.specs.Prelude.{min}
+use Rattle.std.proofs.lemmas.List.Sums.{sum_by-cons}
 use Rattle.recip_sum.proofs.Items.{SameReciprocals-insert_entry, SameReciprocals-set_value, SameReciprocals-remove_entry}
 use Rattle.recip_sum.proofs.Views.{seen, items-seen, count_of-seen, insert-seen, remove-seen}
 
@@ -28,8 +31,8 @@ one_less_by P ratio es gone stays =
       | false ↦ λ is. stays (eqb-false (counted ratio es) 1 is)
     ] refl
 
-module _ (es : List (ℕ × ℕ)) (total room : ℕ) (h : AreCounts es total room) (ratio : ℕ) where
-  pub AreCounts-more : (fs : List (ℕ × ℕ)) (space : ℕ) → total < 2 ^ 20 → IsRatio ratio → fs ≡ insert_entry nat_cmp es ratio (counted ratio es + 1) → IsStrictlySortedBy nat_cmp (keys_of fs) → length fs ≤ space → AreCounts fs (total + 1) space
+module _ (es : List (ℕ × ℕ)) (total floors room : ℕ) (h : AreCounts es total floors room) (ratio : ℕ) where
+  pub AreCounts-more : (fs : List (ℕ × ℕ)) (space : ℕ) → total < 2 ^ 20 → IsRatio ratio → fs ≡ insert_entry nat_cmp es ratio (counted ratio es + 1) → IsStrictlySortedBy nat_cmp (keys_of fs) → length fs + min (length fs) 1 ≤ space → AreCounts fs (total + 1) (floors + floor_of ratio) space
   AreCounts-more fs space few ok is still fits =
       let same = SameReciprocals-insert_entry es ratio h.ordered in
       record {
@@ -37,16 +40,17 @@ module _ (es : List (ℕ × ℕ)) (total room : ℕ) (h : AreCounts es total roo
         ratios = subst (λ es. All IsRatio (keys_of es)) (sym is) (All-keys-insert_entry nat_cmp ratio (counted ratio es + 1) IsRatio es h.ratios ok);
         positive = subst (λ es. All (λ count. 0 < count) (values_of es)) (sym is) (All-values-insert_entry nat_cmp ratio (counted ratio es + 1) (λ count. 0 < count) es h.positive (omega arith));
         sum = let s = h.sum in let l = same.lengths in subst (λ es. total + 1 ≡ length (items_of es)) (sym is) (omega arith);
+        rounded = let f = h.rounded in let l = same.floors in subst (λ es. floors + floor_of ratio ≡ floor_sum (items_of es)) (sym is) (omega (arith, sum_by-cons floor_of ratio (items_of es)));
         few = omega arith;
         space = fits;
       }
 
-  SameReciprocals-one_less : 0 < counted ratio es → SameReciprocals (ratio ∷ items_of (one_less ratio es)) (items_of es)
+  pub SameReciprocals-one_less : 0 < counted ratio es → SameReciprocals (ratio ∷ items_of (one_less ratio es)) (items_of es)
   SameReciprocals-one_less there = one_less_by (λ fs. SameReciprocals (ratio ∷ items_of fs) (items_of es)) ratio es
       (λ one. SameReciprocals-remove_entry es ratio (some_number (lookup (is_at (nat_cmp ratio)) es) 1 one (omega arith)))
       (λ _. SameReciprocals-set_value es ratio (counted ratio es - 1) (some_number (lookup (is_at (nat_cmp ratio)) es) (counted ratio es - 1 + 1) (omega arith) (omega arith)))
 
-  pub AreCounts-less : (fs : List (ℕ × ℕ)) → 0 < counted ratio es → fs ≡ one_less ratio es → IsStrictlySortedBy nat_cmp (keys_of fs) → length fs ≤ length es → AreCounts fs (total - 1) room
+  pub AreCounts-less : (fs : List (ℕ × ℕ)) → 0 < counted ratio es → fs ≡ one_less ratio es → IsStrictlySortedBy nat_cmp (keys_of fs) → length fs ≤ length es → AreCounts fs (total - 1) (floors - floor_of ratio) room
   AreCounts-less fs there is still fits =
       let same = SameReciprocals-one_less there in
       let few = h.few in let space = h.space in
@@ -59,6 +63,7 @@ module _ (es : List (ℕ × ℕ)) (total room : ℕ) (h : AreCounts es total roo
             (λ _. All-map-remove_entry (is_at (nat_cmp ratio)) (λ e. e.1) (λ count. 0 < count) es h.positive)
             (λ more. All-values-set_value (is_at (nat_cmp ratio)) (λ count. 0 < count) es (counted ratio es - 1) h.positive (omega arith)));
         sum = let s = h.sum in let l = same.lengths in subst (λ es. total - 1 ≡ length (items_of es)) (sym is) (omega arith);
+        rounded = let f = h.rounded in let l = same.floors in subst (λ es. floors - floor_of ratio ≡ floor_sum (items_of es)) (sym is) (omega (arith, sum_by-cons floor_of ratio (items_of (one_less ratio es))));
         few = omega arith;
         space = omega arith;
       }

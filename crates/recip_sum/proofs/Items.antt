@@ -14,7 +14,8 @@ use Rattle.std.proofs.lemmas.Map.Entries.{none_below_head, lookup_head, lookup_t
 use Rattle.std.proofs.lemmas.Map.Keys.{sorted_tail}
 use Rattle.std.proofs.lemmas.Map.Views.{tells_apart}
 use Rattle.std.proofs.lemmas.List.{length-replicate}
-use Rattle.std.proofs.lemmas.List.Elements.{All-tail}
+use Rattle.std.proofs.lemmas.List.Elements.{All-tail, All-nil, All-append, All-replicate}
+use Rattle.recip_sum.specs.Kept.{IsRatio}
 use Rattle.recip_sum.specs.Items.{counted, items_of, SameReciprocals}
 use Rattle.recip_sum.proofs.Same.{SameReciprocals-refl, SameReciprocals-sym, SameReciprocals-trans, SameReciprocals-to_front, SameReciprocals-append}
 
@@ -91,3 +92,23 @@ length-le-items_of (e ∷ es) h =
     let rest = length-le-items_of es (All-tail (λ count. 0 < count) e.1 (values_of es) h) in
     let here = h 0 e.1 (omega arith) in
     omega (arith, rest, here, length-append (replicate e.1 e.0) (items_of es), length-replicate e.1 e.0)
+
+-- a ratio that is counted is positive
+pub counted_is_positive : (es : List (ℕ × ℕ)) (ratio : ℕ) → All IsRatio (keys_of es) → 0 < counted ratio es → 0 < ratio
+counted_is_positive [] ratio h there = absurd (omega arith)
+counted_is_positive (e ∷ es) ratio h there =
+    elim (is_at (nat_cmp ratio) e.0) as (λ b. is_at (nat_cmp ratio) e.0 ≡ b → 0 < unwrap_or (cond b (Some e.1) (lookup (is_at (nat_cmp ratio)) es)) 0 → 0 < ratio) [
+      | true ↦ λ at _. subst (λ r. 0 < r) (ratio_at ratio e.0 at) (h 0 e.0 (omega arith)).0
+      | false ↦ λ _ later. counted_is_positive es ratio (All-tail IsRatio e.0 (keys_of es) h) later
+    ] refl there
+
+-- the reciprocals of the items of positive ratios
+pub items_of-positive : (es : List (ℕ × ℕ)) → All IsRatio (keys_of es) → All (λ r. 0 < r) (items_of es)
+items_of-positive [] h = All-nil (λ r. 0 < r)
+items_of-positive (e ∷ es) h =
+    All-append (λ r. 0 < r) (replicate e.1 e.0) (items_of es) (All-replicate (λ r. 0 < r) e.1 e.0 (h 0 e.0 (omega arith)).0) (items_of-positive es (All-tail IsRatio e.0 (keys_of es) h))
+
+-- where there are items there is a ratio
+pub some_ratio : (es : List (ℕ × ℕ)) → 0 < length (items_of es) → 0 < length es
+some_ratio [] some = absurd (omega arith)
+some_ratio (e ∷ es) some = omega arith

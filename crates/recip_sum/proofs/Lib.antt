@@ -1,3 +1,4 @@
+pub mod RoundedSums
 pub mod Turns
 pub mod Digits
 pub mod Undecided
@@ -8,3 +9,4 @@ pub mod Views
 pub mod Fractions
 pub mod Changes
 pub mod CountLaws
+pub mod Trials

@@ -3,25 +3,33 @@ use Rattle.std.proofs.Common.{length, take, get_or, ◌<◌, ◌+◌, ℕ, suc, 
 use Rattle.std.proofs.lemmas.List.{append-nil, take_more}
 use Rattle.tdm_problem.specs.Fit.{product, reciprocals, FitsLanes}
 use Rattle.recip_sum.specs.Items.{SameReciprocals}
+use Rattle.recip_sum.specs.Rounded.{floor_of}
+use Rattle.std.proofs.lemmas.List.Sums.{sum_by-cons}
 
 pub SameReciprocals-refl : (xs : List ℕ) → SameReciprocals xs xs
-SameReciprocals-refl xs = record { products = refl; sums = refl; lengths = refl }
+SameReciprocals-refl xs = record { products = refl; sums = refl; lengths = refl; floors = refl }
 
 pub SameReciprocals-sym : (xs ys : List ℕ) → SameReciprocals xs ys → SameReciprocals ys xs
-SameReciprocals-sym xs ys h = record { products = sym h.products; sums = sym h.sums; lengths = sym h.lengths }
+SameReciprocals-sym xs ys h = record { products = sym h.products; sums = sym h.sums; lengths = sym h.lengths; floors = sym h.floors }
 
 pub SameReciprocals-trans : (xs ys zs : List ℕ) → SameReciprocals xs ys → SameReciprocals ys zs → SameReciprocals xs zs
-SameReciprocals-trans xs ys zs h i = record { products = h.products ∙ i.products; sums = h.sums ∙ i.sums; lengths = h.lengths ∙ i.lengths }
+SameReciprocals-trans xs ys zs h i = record { products = h.products ∙ i.products; sums = h.sums ∙ i.sums; lengths = h.lengths ∙ i.lengths; floors = h.floors ∙ i.floors }
 
 pub SameReciprocals-cons : (x : ℕ) (xs ys : List ℕ) → SameReciprocals xs ys → SameReciprocals (x ∷ xs) (x ∷ ys)
 SameReciprocals-cons x xs ys h = record {
   products = ap (λ p. x * p) h.products;
   sums = let p = h.products in let q = ap (λ s. x * s) h.sums in omega arith;
   lengths = ap suc h.lengths;
+  floors = sum_by-cons floor_of x xs ∙ ap (λ s. floor_of x + s) h.floors ∙ sym (sum_by-cons floor_of x ys);
 }
 
 pub SameReciprocals-swap : (x y : ℕ) (xs : List ℕ) → SameReciprocals (x ∷ y ∷ xs) (y ∷ x ∷ xs)
-SameReciprocals-swap x y xs = record { products = omega arith; sums = omega arith; lengths = refl }
+SameReciprocals-swap x y xs = record {
+  products = omega arith;
+  sums = omega arith;
+  lengths = refl;
+  floors = omega (arith, sum_by-cons floor_of x (y ∷ xs), sum_by-cons floor_of y xs, sum_by-cons floor_of y (x ∷ xs), sum_by-cons floor_of x xs);
+}
 
 -- an item from the middle goes to the front
 pub SameReciprocals-to_front : (xs : List ℕ) (x : ℕ) (ys : List ℕ) → SameReciprocals (xs ++ x ∷ ys) (x ∷ (xs ++ ys))

@@ -1,4 +1,6 @@
+pub mod Rounded
 pub mod Counts
 pub mod Items
 pub mod LongDivision
 pub mod Kept
+pub mod LeastEven

@@ -8,14 +8,21 @@ ghost use Rattle.tdm_problem.specs.Fit.{FitsLanes};
 ghost use Rattle.recip_sum.specs.Counts.{count_of, items, with_item, without_item};
 ghost use Rattle.recip_sum.specs.Items.{SameReciprocals, counted, items_of, one_less};
 ghost use Rattle.recip_sum.specs.Kept.{AreCounts};
+ghost use Rattle.recip_sum.specs.LeastEven.{IsLeastEven};
 ghost use Rattle.recip_sum.specs.LongDivision.{start_term};
+ghost use Rattle.recip_sum.specs.Rounded.{floor_sum};
 
+use crate::least_even::{Totals, least_even_of};
 use crate::long_division::{Term, sum_to_at_most};
+use crate::rounding::floor_of_reciprocal;
 use crate::steps::Steps;
 use std::alloc::{AllocError, Global};
 use std::collections::BTreeMap;
 use std::marker::{Brand, Model};
 use std::sync::ledger::{Blank, Ledger};
+
+/// The lanes' unit: a reciprocal of 1.
+pub(crate) const UNIT: u128 = 1 << 64;
 
 /// How many items there are of each ratio: at most 2^20 in all, of ratios from 1 to 2^32 - 1. Contracts see it as a
 /// finite map from ratios to positive numbers of items.
@@ -23,6 +30,7 @@ use std::sync::ledger::{Blank, Ledger};
 pub struct Counts {
     counts: BTreeMap<u32, u32>,
     total: u32,
+    floors: u128,
     terms: Vec<Term>,
 }
 
@@ -39,7 +47,7 @@ impl Model for Counts {
 
     ghost view = { λ c. map.from_sorted c.counts.entries };
 
-    ghost invariant = { λ c. AreCounts c.counts.entries c.total (vec_len c.terms) };
+    ghost invariant = { λ c. AreCounts c.counts.entries c.total c.floors (vec_len c.terms) };
 }
 
 impl Counts {
@@ -51,6 +59,7 @@ impl Counts {
         Counts {
             counts: BTreeMap::new(alloc),
             total: 0,
+            floors: 0,
             terms: Vec::new(alloc),
         }
     }
@@ -62,6 +71,13 @@ impl Counts {
         self.total
     }
 
+    /// The sum over all items of `2^64 / ratio`, rounded down. It is kept, not worked out.
+    pub fn floor_sum(&self) -> u128
+        ensures { result ≡ floor_sum (items self.now) }
+    {
+        self.floors
+    }
+
     /// How many different ratios there are. No ratio is kept that has no item.
     pub fn distinct(&self) -> u32
         ensures number { result ≡ map.len self.now }
@@ -70,7 +86,8 @@ impl Counts {
         self.counts.len() as u32
     }
 
-    /// Adds one item of the ratio, in the time of a look-up or two. Makes the room that `at_most` uses.
+    /// Adds one item of the ratio, in the time of a look-up or two and a division. Makes the room that `at_most` and
+    /// `least_even` use.
     ///
     /// The only error is want of memory, and it leaves the items as they were.
     pub fn add(&mut self, ratio: u32) -> Result<(), AllocError>
@@ -83,10 +100,11 @@ impl Counts {
         make_room(&mut self.terms, self.counts.len())?;
         count_one_more(&mut self.counts, ratio)?;
         self.total += 1;
+        self.floors += floor_of_reciprocal(ratio);
         Ok(())
     }
 
-    /// Takes one item of the ratio away. Takes no memory.
+    /// Takes one item of the ratio away, with one division. Takes no memory.
     pub fn remove(&mut self, ratio: u32)
         requires there { 0 < count_of self.old ratio }
         ensures less { self.new ≡ without_item self.old ratio }
@@ -94,6 +112,7 @@ impl Counts {
     {
         count_one_less(&mut self.counts, ratio);
         self.total -= 1;
+        self.floors -= floor_of_reciprocal(ratio);
     }
 
     /// Takes all items away, and keeps the room that `at_most` uses.
@@ -103,20 +122,55 @@ impl Counts {
     {
         self.counts.clear();
         self.total = 0;
+        self.floors = 0;
     }
 
     /// Whether the reciprocals of all items sum to at most `lanes`, exactly. Leaves the items as they were, and takes no
     /// memory.
     ///
-    /// A step is one division. With `d` different ratios it takes at most `d(d + 1)` steps, and mostly `d`, since the
-    /// first digits decide. The method is long division in base 2^32, a digit of each ratio's reciprocal at a time.
+    /// A step is one division. There is none where the sum of the reciprocals rounded down tells: it fits with a unit more
+    /// for each item, or it does not fit as it is. Else, with `d` different ratios, there are at most `d(d + 1)` steps, and
+    /// mostly `d`, since the first digits decide. The method is long division in base 2^32, a digit of each ratio's
+    /// reciprocal at a time.
     pub fn at_most<L: Ledger>(&mut self, lanes: u64, steps: &mut Steps<L>) -> bool
         ensures same { self.new ≡ self.old }
         ensures exact { IsTrue result ↔ FitsLanes (items self.old) lanes }
         ensures steps_rise { steps.old ≤ steps.new }
         ensures few_steps { steps.new ≤ steps.old + map.len self.old * (map.len self.old + 1) }
+        ensures sure_yes { floor_sum (items self.old) + length (items self.old) ≤ lanes * 2 ^ 64
+            → steps.new ≡ steps.old }
+        ensures sure_no { lanes * 2 ^ 64 < floor_sum (items self.old) → steps.new ≡ steps.old }
     {
+        let most = lanes as u128 * UNIT;
+        if self.floors + self.total as u128 <= most {
+            return true;
+        }
+        if self.floors > most {
+            return false;
+        }
         reciprocals_fit(&self.counts, &mut self.terms, self.total, lanes, steps)
+    }
+
+    /// The least even ratio, at least 2, with which one more item fits the lanes, exactly. Leaves the items as they were,
+    /// and takes no memory.
+    ///
+    /// The halves of the ratios are bisected, and a step is one division. A ratio that is tried takes one step, and more
+    /// only where the reciprocals rounded down do not tell.
+    pub fn least_even<L: Ledger>(&mut self, lanes: u64, steps: &mut Steps<L>) -> u32
+        requires few { length (items self.old) < 2 ^ 20 }
+        requires room { FitsLanes (4294967294 ∷ items self.old) lanes }
+        ensures same { self.new ≡ self.old }
+        ensures least { IsLeastEven (items self.old) lanes result }
+        ensures steps_rise { steps.old ≤ steps.new }
+    {
+        if self.total == 0 {
+            return 2;
+        }
+        let totals = Totals {
+            items: self.total,
+            floors: self.floors,
+        };
+        least_even_of(&self.counts, totals, &mut self.terms, lanes, steps)
     }
 
     /// `at_most` for a caller that counts no steps.
@@ -140,20 +194,19 @@ fn at_most_from<L: Ledger>(counts: &mut Counts, lanes: u64, blank: Blank) -> boo
     counts.at_most(lanes, &mut steps)
 }
 
-/// Makes room for the term of one ratio more than these, where there is none.
+/// Makes room for the terms of two ratios more than these, where there is none.
 fn make_room(terms: &mut Vec<Term>, ratios: usize) -> Result<(), AllocError>
-    requires { ratios ≤ vec_len terms.old }
-    ensures room { OnOk result (ratios < vec_len terms.new) }
+    requires { ratios ≤ 2 ^ 20 }
+    ensures room { OnOk result (ratios + 2 ≤ vec_len terms.new) }
     ensures kept { vec_len terms.old ≤ vec_len terms.new }
 {
-    if ratios < terms.len() {
-        return Ok(());
+    while terms.len() < ratios + 2 {
+        terms.push(Term {
+            ratio: 1,
+            count: 0,
+            remainder: 1,
+        })?;
     }
-    terms.push(Term {
-        ratio: 1,
-        count: 0,
-        remainder: 1,
-    })?;
     Ok(())
 }
 
@@ -201,7 +254,7 @@ fn reciprocals_fit<L: Ledger>(
     lanes: u64,
     steps: &mut Steps<L>,
 ) -> bool
-    requires { AreCounts counts.now.entries total (length terms.old) }
+    requires { (floors : ℕ) × AreCounts counts.now.entries total floors (length terms.old) }
     ensures exact { IsTrue result ↔ FitsLanes (items_of counts.now.entries) lanes }
     ensures steps_rise { steps.old ≤ steps.new }
     ensures few_steps { steps.new ≤ steps.old + btree_map_len counts.now * (btree_map_len counts.now + 1) }
@@ -212,7 +265,7 @@ fn reciprocals_fit<L: Ledger>(
 }
 
 /// Writes the term of each ratio with the whole reciprocal left.
-fn start_terms(counts: &BTreeMap<u32, u32>, terms: &mut [Term])
+pub(crate) fn start_terms(counts: &BTreeMap<u32, u32>, terms: &mut [Term])
     requires { length terms.old ≡ btree_map_len counts.now }
     ensures { terms.new ≡ map_list start_term counts.now.entries }
 {

@@ -21,9 +21,9 @@ pub(crate) struct Term {
 
 /// What a division gives.
 #[derive(Clone, Copy)]
-struct Quotient {
-    digit: u64,
-    remainder: u32,
+pub(crate) struct Quotient {
+    pub(crate) digit: u64,
+    pub(crate) remainder: u32,
 }
 
 /// The most items that a list of terms may stand for.
@@ -79,14 +79,23 @@ fn take_digits<L: Ledger>(terms: &mut [Term], steps: &mut Steps<L>) -> u64
     sum
 }
 
-/// The one division, which is a step.
-fn divide<L: Ledger>(dividend: u64, divisor: u32, steps: &mut Steps<L>) -> Quotient
+/// The one division of the tests, which is a step.
+pub(crate) fn divide<L: Ledger>(dividend: u64, divisor: u32, steps: &mut Steps<L>) -> Quotient
     requires { 0 < divisor }
     ensures digit { result.digit ≡ dividend / divisor }
     ensures remainder { result.remainder ≡ dividend % divisor }
     ensures step { steps.new ≡ steps.old + 1 }
 {
     steps.tick();
+    quotient_of(dividend, divisor)
+}
+
+/// Quotient and remainder, which nothing counts.
+pub(crate) fn quotient_of(dividend: u64, divisor: u32) -> Quotient
+    requires { 0 < divisor }
+    ensures digit { result.digit ≡ dividend / divisor }
+    ensures remainder { result.remainder ≡ dividend % divisor }
+{
     let divisor = divisor as u64;
     Quotient {
         digit: dividend / divisor,

@@ -1,9 +1,12 @@
 //! Worked examples of the counts and of the exact test.
 
-ghost use Rattle.std.specs.Prelude.{◌≡◌, ◌+◌, ◌<◌, ◌≤◌};
+ghost use Rattle.std.specs.Prelude.{◌≡◌, ◌+◌, ◌*◌, ◌^◌, ◌<◌, ◌≤◌, ◌∷◌, length};
+ghost use Rattle.recip_sum.specs.Counts.{items};
+ghost use Rattle.recip_sum.specs.Rounded.{floor_sum};
+ghost use Rattle.tdm_problem.specs.Fit.{FitsLanes};
 ghost use Rattle.std.specs.FinMap as map;
 
-use crate::{Counts, Steps};
+use crate::{Counts, Steps, ceiling_of_reciprocal, floor_of_reciprocal};
 use std::alloc::{AllocError, Global};
 use std::marker::Brand;
 use std::process::Abort;
@@ -69,6 +72,76 @@ fn compares_the_sum_of_reciprocals_exactly(rt: HostRuntime) -> Result<(), AllocE
     Ok(())
 }
 
+/// The least even ratio with which one more item fits so many lanes, where there is room for one more at all.
+fn least_even_with_new_steps<L: Ledger>(counts: &mut Counts, lanes: u64, blank: Blank) -> u32
+    requires name { blank.name ≡ L.name }
+    requires parts { blank.parts ≡ L.parts }
+    requires some { 0 < blank.parts }
+    requires few { length (items counts.old) < 2 ^ 20 }
+    requires room { FitsLanes (4294967294 ∷ items counts.old) lanes }
+    ensures { counts.new ≡ counts.old }
+{
+    let mut steps = Steps::<L>::new(blank);
+    counts.least_even(lanes, &mut steps)
+}
+
+/// The least even ratio beside these items on one lane; 0 where no ratio fits.
+fn least_even_beside(rt: &impl Abort, alloc: Global, ratios: &[u32]) -> Result<u32, AllocError> {
+    let mut counts = counts_of(rt, alloc, ratios)?;
+    assert!(rt; counts.items() < 1 << 20);
+    counts.add(4294967294)?;
+    if !counts.fits_lanes(1) {
+        return Ok(0);
+    }
+    counts.remove(4294967294);
+    Ok(least_even_with_new_steps::<Brand>(&mut counts, 1, Blank::new(1)))
+}
+
+#[test]
+fn the_least_even_ratio_leaves_no_room(rt: HostRuntime) -> Result<(), AllocError> {
+    let none: &[u32] = &[];
+    for (ratios, least) in [
+        (none, 2),
+        (&[2], 2),
+        (&[2, 4], 4),
+        (&[2, 6, 6], 6),
+        (&[4, 4, 4], 4),
+        (&[2, 2], 0),
+        (&[2, 3, 7], 42),
+        (&[2, 4294967294], 4),
+    ] {
+        assert_eq!(rt; least_even_beside(&rt, rt.alloc(), ratios)?, least);
+    }
+    Ok(())
+}
+
+#[test]
+fn the_sum_of_reciprocals_rounded_down_is_kept(rt: HostRuntime) -> Result<(), AllocError> {
+    let mut counts = counts_of(&rt, rt.alloc(), &[2, 4])?;
+    assert_eq!(rt; counts.floor_sum(), 13835058055282163712);
+    counts.clear();
+    assert_eq!(rt; counts.floor_sum(), 0);
+    let mut counts = counts_of(&rt, rt.alloc(), &[2, 6, 6, 6])?;
+    assert_eq!(rt; counts.floor_sum(), 18446744073709551614);
+    assert_eq!(rt;
+        (floor_of_reciprocal(6), ceiling_of_reciprocal(6)),
+        (3074457345618258602, 3074457345618258603)
+    );
+    assert_eq!(rt;
+        (floor_of_reciprocal(1), ceiling_of_reciprocal(2)),
+        (1 << 64, 1 << 63)
+    );
+    Ok(())
+}
+
+/// Whether items fit so many lanes, which their reciprocals rounded down tell, with no step.
+fn fits_without_a_step<L: Ledger>(counts: &mut Counts, lanes: u64, steps: &mut Steps<L>) -> bool
+    requires { floor_sum (items counts.old) + length (items counts.old) ≤ lanes * 2 ^ 64 }
+    ensures { steps.new ≡ steps.old }
+{
+    counts.at_most(lanes, steps)
+}
+
 #[test]
 fn an_item_taken_away_leaves_the_others(rt: HostRuntime) -> Result<(), AllocError> {
     let mut counts = counts_of(&rt, rt.alloc(), &[6, 2, 6])?;
@@ -76,5 +149,6 @@ fn an_item_taken_away_leaves_the_others(rt: HostRuntime) -> Result<(), AllocErro
     counts.add(2)?;
     counts.remove(2);
     assert_eq!(rt; (counts.items(), counts.distinct()), (3, 2));
+    assert_eq!(rt; counts.floor_sum(), 15372286728091293012);
     Ok(())
 }
