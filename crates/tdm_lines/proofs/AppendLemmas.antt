@@ -21,7 +21,7 @@ module _ {X : Type 0} (p : X → Bool) where
       ap (λ ps. cond (p x) ([] ∷ ps) (onto_first x ps)) (slice_split-append xs y ys e)
       ∙ cut-append (p x) x (slice_split p xs) (slice_split p ys) (omega (arith, length-slice_split p xs))
 
-put_line-append : (max n : ℕ) (toks : List (List ℕ)) (ls more : List Line) → put_line max n toks (ls ++ more) ≡ put_line max n toks ls ++ more
+pub put_line-append : (max n : ℕ) (toks : List (List ℕ)) (ls more : List Line) → put_line max n toks (ls ++ more) ≡ put_line max n toks ls ++ more
 put_line-append max n [] ls more = refl
 put_line-append max n (t ∷ ts) ls more = refl
 

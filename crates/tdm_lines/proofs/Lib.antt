@@ -1,8 +1,10 @@
 pub mod AppendLemmas
+pub mod KeepsLemmas
 pub mod LineSteps
 pub mod PendingLemmas
 pub mod PieceSteps
 pub mod ScanSteps
+pub mod SoFarLemmas
 pub mod TextLemmas
 pub mod TokenLemmas
 pub mod WrittenLemmas

@@ -2,5 +2,6 @@ pub mod Digits
 pub mod Lines
 pub mod Pending
 pub mod Scan
+pub mod SoFar
 pub mod Tokens
 pub mod Written

@@ -9,13 +9,17 @@ mod cursor;
 #[cfg(test)]
 mod definitions;
 mod digits;
+mod grammar;
 mod line;
 mod pushed;
+mod reading;
 mod scan;
 #[cfg(test)]
 mod tests;
 
 pub use cursor::{FoundLine, LineCursor};
 pub use digits::{Digits, decimal};
+pub use grammar::Grammar;
 pub use line::{TokenFault, TokenLine, line_after, token_lines};
 pub use pushed::{Scan, ScanStep, TokenEnd};
+pub use reading::Reading;

@@ -107,7 +107,7 @@ fn read_token(bytes: &[u8], at: usize, max: u64) -> Token
 }
 
 /// The worse of two faults.
-fn worse(fault: Option<TokenFault>, found: TokenFault) -> TokenFault
+pub(crate) fn worse(fault: Option<TokenFault>, found: TokenFault) -> TokenFault
     ensures { result ≡ worse_of fault found }
 {
     match fault {

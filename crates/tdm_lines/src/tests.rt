@@ -1,9 +1,10 @@
 ghost use Rattle.std.specs.Prelude.{◌≤◌, ◌^◌, length};
 
 use crate::{
-    FoundLine, LineCursor, Scan, ScanStep, TokenEnd, TokenFault, decimal, line_after, token_lines,
+    FoundLine, Grammar, LineCursor, Reading, Scan, ScanStep, TokenEnd, TokenFault, decimal,
+    line_after, token_lines,
 };
-use std::alloc::Global;
+use std::alloc::{AllocError, Global};
 use std::process::Abort;
 use std::test::Fail;
 
@@ -144,4 +145,66 @@ fn tells_what_each_byte_ends(rt: HostRuntime) {
     assert_eq!(rt; scan.line(), 2);
     assert_eq!(rt; scan.push_token(b"12 3", 0), 2);
     assert!(rt; scan.finish() == Some(TokenEnd::Large));
+}
+
+/// The numbers of a text, and how many of its lines are at fault.
+#[derive(Drop)]
+struct Tally {
+    numbers: Vec<u64>,
+    faults: u32,
+}
+
+impl Grammar for Tally {
+    ghost fine = { λ _. Unit {0} };
+
+    ghost reads = { λ _ _. Unit {0} };
+
+    ghost holds = { λ _ _. Unit {0} };
+
+    fn number(&mut self, _place: u32, number: u64) -> Result<(), AllocError> {
+        self.numbers.push(number)?;
+        Ok(())
+    }
+
+    fn line(
+        &mut self,
+        _line: u32,
+        fault: Option<TokenFault>,
+        _count: u32,
+    ) -> Result<(), AllocError> {
+        if fault.is_some() {
+            self.faults = self.faults.saturating_add(1);
+        }
+        Ok(())
+    }
+}
+
+/// Feeds a short text in pieces of this length, with an empty piece before each.
+fn read_in_pieces(
+    rt: &impl Abort,
+    alloc: Global,
+    text: &[u8],
+    length: usize,
+) -> Result<(Tally, u32), Fail> {
+    let numbers = Vec::new(alloc);
+    let mut reading = Reading::new(Tally { numbers, faults: 0 }, 9);
+    assert!(rt; length > 0);
+    for piece in text.chunks(length) {
+        assert!(rt; reading.fed() < 100 && piece.len() < 100);
+        reading.feed(&[])?;
+        reading.feed(piece)?;
+    }
+    assert!(rt; reading.fed() < 100);
+    Ok(reading.finish()?)
+}
+
+#[test]
+fn cuts_of_a_text_do_not_matter(rt: HostRuntime) -> Result<(), Fail> {
+    for length in [1usize, 2, 3, 18] {
+        let read = read_in_pieces(&rt, rt.alloc(), b"1 02\r\n \n10 x 3\n 7", length)?;
+        assert_eq!(rt; read.0.numbers.as_slice(), [1, 2, 7].as_slice());
+        assert_eq!(rt; read.0.faults, 1);
+        assert_eq!(rt; read.1, 4);
+    }
+    Ok(())
 }
