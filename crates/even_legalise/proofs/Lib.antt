@@ -2,3 +2,10 @@ pub mod EqualRatios
 pub mod UniformLaws
 pub mod UniformIsLegal
 pub mod UniformSteps
+pub mod Evens
+pub mod Numbers
+pub mod SharesFit
+pub mod ClaimSteps
+pub mod SharedIsLegal
+pub mod SharedSteps
+pub mod GroupSums

@@ -1,1 +1,4 @@
 pub mod Uniform
+pub mod Shared
+pub mod Claims
+pub mod Laws

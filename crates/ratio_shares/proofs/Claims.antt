@@ -1,14 +1,13 @@
 -- what claims and shares sum to
-use Rattle.std.proofs.Common.{◌≡◌, ℕ, ◌+◌, ◌*◌, ◌/◌, ◌<◌, ◌≤◌, ◌^◌, List, [], ◌∷◌, length, map, get_or, ap, arith}
-use Rattle.std.specs.Prelude.{All, max, sum, sum_by}
+use Rattle.std.proofs.Common.{◌≡◌, ℕ, ◌+◌, ◌*◌, ◌/◌, ◌<◌, ◌≤◌, ◌^◌, List, [], ◌∷◌, length, get_or, ap, arith}
+use Rattle.std.specs.Prelude.{All, sum, sum_by}
 use Rattle.std.specs.Int.{div_ceil}
-use Rattle.std.proofs.lemmas.List.Elements.{All-map}
 use Rattle.std.proofs.lemmas.List.Sums.{sum_by-cons, sum_by-le, sum-map, get_or-le-sum_by}
 use Rattle.std.proofs.lemmas.Grind.{div_ceil_times}
 use Rattle.std.proofs.lemmas.Nat.{mul-le, le-div}
 use Rattle.std.proofs.Math.Nat.{div-mul-le_self, div-le_of_le-mul, le_of_mul-le-mul_right}
 use Rattle.tdm_problem.specs.Value.{largest}
-use Rattle.ratio_shares.specs.Shares.{least_claim, claim_in, claims_of, share_for, share_in, shares_of}
+use Rattle.ratio_shares.specs.Shares.{least_claim, claim_in, claims_of, share_in, shares_of}
 use Rattle.ratio_shares.proofs.Largest.{le-largest, largest_least}
 
 -- quotients that round down sum to no more than the whole times the sum of what is divided
@@ -34,7 +33,7 @@ shares-le (x ∷ xs) lanes =
     omega (arith, sum-map (share_in (x ∷ xs) lanes) (x ∷ xs), le_of_mul-le-mul_right within some)
 
 -- a claim is at most a 1024th part of 2^30 claims of any one, where there are 2^20
-claims-le : (numbers : List ℕ) (number : ℕ) → length numbers ≤ 2 ^ 20 → claims_of numbers ≤ 2 ^ 30 * claim_in numbers number
+pub claims-le : (numbers : List ℕ) (number : ℕ) → length numbers ≤ 2 ^ 20 → claims_of numbers ≤ 2 ^ 30 * claim_in numbers number
 claims-le numbers number few =
     let parts : largest numbers ≤ div_ceil (largest numbers) 1024 * 1024 = (div_ceil_times (largest numbers) 1024 (omega arith)).0 in
     let each : All (λ x. claim_in numbers x ≤ 1024 * claim_in numbers number) numbers = λ i d inside. omega (arith, parts, le-largest numbers i d inside) in
