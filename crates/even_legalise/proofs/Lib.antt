@@ -9,3 +9,4 @@ pub mod ClaimSteps
 pub mod SharedIsLegal
 pub mod SharedSteps
 pub mod GroupSums
+pub mod SampleTrees

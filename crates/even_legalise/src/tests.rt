@@ -56,3 +56,37 @@ fn three_nets_of_a_wire_have_ratio_4(rt: HostRuntime) -> Result<(), Fail> {
     }
     Ok(())
 }
+
+#[test]
+fn even_ratios_are_the_least_that_are_large_enough(rt: HostRuntime) {
+    assert_eq!(rt; even_of(1 << 64), 2);
+    assert_eq!(rt; even_of(1 << 63), 2);
+    assert_eq!(rt; even_of(1 << 62), 4);
+    assert_eq!(rt; even_of(6148914691236517205), 4);
+    assert_eq!(rt; even_of(17996823486545904), 1026);
+}
+
+#[test]
+fn three_nets_of_one_number_share_with_ratio_4(rt: HostRuntime) -> Result<(), Fail> {
+    let problem = three_nets_on_a_wire(rt.alloc())?;
+    let trees = wire_for_three_nets(rt.alloc())?;
+    let solution = legalise(rt.alloc(), &problem, &trees, &[1024, 1024, 1024])?;
+    assert_eq!(rt; solution.nets(), 3);
+    for n in 0..3 {
+        let uses = solution.uses(n);
+        assert_eq!(rt; uses.len(), 1);
+        assert_eq!(rt; (uses[0].wire, uses[0].ratio), (0, 4), "of net {n}");
+    }
+    Ok(())
+}
+
+#[test]
+fn sums_are_those_of_the_shares(rt: HostRuntime) -> Result<(), Fail> {
+    let problem = three_nets_on_a_wire(rt.alloc())?;
+    let trees = wire_for_three_nets(rt.alloc())?;
+    let equal = shared_sums(rt.alloc(), &problem, &trees, &[1024, 1024, 1024])?;
+    assert_eq!(rt; equal.as_slice(), [12].as_slice());
+    let apart = shared_sums(rt.alloc(), &problem, &trees, &[0, 1024, 1024])?;
+    assert_eq!(rt; apart.as_slice(), [2058].as_slice());
+    Ok(())
+}
