@@ -1,0 +1,5 @@
+pub mod GrowthLaws
+pub mod TreeLaws
+pub mod Trails
+pub mod LengthLaws
+pub mod MinimalLaws
