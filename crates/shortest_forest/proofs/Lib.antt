@@ -7,4 +7,10 @@ pub mod PassLaws
 pub mod Forests
 pub mod ClimbLaws
 pub mod Connected
+pub mod UnderWay
+pub mod Passing
+pub mod StampLaws
+pub mod WayLaws
+pub mod NearestLaws
+pub mod ForestLaws
 mod SampleParents

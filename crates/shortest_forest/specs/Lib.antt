@@ -2,3 +2,8 @@ pub mod Baseline
 pub mod Reach
 pub mod Search
 pub mod Climb
+pub mod Arcs
+pub mod Labels
+pub mod Stamps
+pub mod LeastForest
+pub mod Settled

@@ -7,7 +7,7 @@ ghost use Rattle.shortest_forest.specs.Baseline.{IsBaseTree, IsParentChain};
 ghost use Rattle.shortest_forest.specs.Reach.{distance_of, IsHopForest};
 ghost use Rattle.shortest_forest.specs.Climb.{IsMarked, IsCollected};
 
-use crate::forest::Forest;
+use crate::hop_forest::Forest;
 use board_graph::BoardGraph;
 use std::alloc::{AllocError, Global};
 use tdm_problem::Wire;
@@ -79,7 +79,7 @@ fn climb(
 }
 
 /// The end of a wire that is not FPGA `f`.
-fn other_end(wire: Wire, f: u32) -> u32
+pub(crate) fn other_end(wire: Wire, f: u32) -> u32
     ensures first { wire.a ≡ f → result ≡ wire.b }
     ensures second { wire.a ≢ f → result ≡ wire.a }
 {

@@ -4,10 +4,23 @@
 mod baseline;
 #[cfg(test)]
 mod definitions;
-mod forest;
+mod hop_forest;
+mod label;
+mod labels;
+mod least;
+mod lengths;
+mod nearest;
 mod search;
+mod stamped;
 #[cfg(test)]
 mod tests;
+mod way;
 
 pub use baseline::base_tree;
-pub use forest::{Forest, hops};
+pub use hop_forest::{Forest, hops};
+pub use label::Label;
+pub use labels::Search;
+pub use least::{forest, settle_all};
+pub use lengths::{ArcLengths, BothWays, Lengths, LowerBounds, NoBound};
+pub use nearest::{MOST_CAP, nearest_goal};
+pub use way::way_back;

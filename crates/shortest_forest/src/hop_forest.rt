@@ -13,9 +13,9 @@ use std::marker::Model;
 /// leaves it. Following these wires, one comes to the root in fewer steps than the graph has FPGAs.
 #[derive(Drop)]
 pub struct Forest {
-    root: u32,
-    distances: Vec<Option<u64>>,
-    parents: Vec<Option<u32>>,
+    pub(crate) root: u32,
+    pub(crate) distances: Vec<Option<u64>>,
+    pub(crate) parents: Vec<Option<u32>>,
 }
 
 impl Model for Forest {

@@ -2,7 +2,7 @@ use Rattle.std.proofs.Common.{ℕ, List, Option, subst}
 use Rattle.board_graph.specs.Graph.{board_of}
 use Rattle.shortest_forest.proofs.HopLaws.{AreNearest}
 use Rattle.shortest_forest.proofs.Forests.{IsHopForest-made}
-use Rattle.shortest_forest.proofs.forest.hops.Goals as goal
+use Rattle.shortest_forest.proofs.hop_forest.hops.Goals as goal
 
 pub returns-clause-hops : goal.returns-clause-hops
 returns-clause-hops c =

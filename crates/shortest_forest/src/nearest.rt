@@ -1,0 +1,112 @@
+//! The search for the nearest goal over lengths of arcs.
+ghost use Rattle.std.specs.Prelude.{◌≡◌, ◌+◌, ◌-◌, ◌^◌, ◌<◌, ◌≤◌, ℕ, length, IfOk, IfSome, IfNone, OnOk, ◌↔◌};
+ghost use Rattle.board_graph.specs.Graph.{board_of, IsGraph};
+ghost use Rattle.shortest_forest.specs.Labels.{IsSource, IsUnderWay, IsNearest, AreFar, IsPassing, IsReached, KeepsMarks, GoesOn};
+
+use crate::labels::Search;
+use crate::lengths::{ArcLengths, LowerBounds};
+use board_graph::BoardGraph;
+use std::alloc::AllocError;
+
+/// The greatest cap: no walk without repeats is so long, since a board has at most 4,096 FPGAs and an arc
+/// is at most 2^51 long.
+pub const MOST_CAP: u64 = u64::MAX - (1 << 51) + 1;
+
+/// Goes on with the search until its nearest goal is settled, and answers it. None where nothing below
+/// `cap` is left: no goal is nearer than that. Labels whose distance and lower bound reach the cap are left
+/// out. Within one search, the lengths stay as they are, the cap may fall and bounds may rise. After want
+/// of memory a search is to be begun anew.
+pub fn nearest_goal<A: ArcLengths, B: LowerBounds>(
+    search: &mut Search,
+    graph: &BoardGraph,
+    arcs: &A,
+    bounds: &B,
+    cap: u64,
+) -> Result<Option<u32>, AllocError>
+    requires arcs { length graph.now.wires ≤ A.arcs_covered arcs.now }
+    requires bounds { graph.now.fpgas ≤ B.bounds_covered bounds.now }
+    requires cap { cap ≤ 2 ^ 64 - 2 ^ 51 }
+    requires under_way { IsUnderWay (board_of graph.now)
+        (A.arc_length arcs.now) (B.lower_bound bounds.now) cap search.old }
+    ensures under_way { OnOk result
+        (IsUnderWay (board_of graph.now) (A.arc_length arcs.now) (B.lower_bound bounds.now) cap search.new) }
+    ensures marks { KeepsMarks search.old search.new }
+    ensures sources { OnOk result ((f : ℕ) → IsSource search.new f ↔ IsSource search.old f) }
+    ensures found { IfOk result (λ found. IfSome found (IsNearest
+        (board_of graph.now) (A.arc_length arcs.now) (B.lower_bound bounds.now) cap search.new)) }
+    ensures far { IfOk result (λ found. IfNone found (AreFar
+        (board_of graph.now) (A.arc_length arcs.now) (B.lower_bound bounds.now) cap search.new)) }
+{
+    while let Some(next) = search.first() {
+        let distance = next.0;
+        let f = next.1;
+        if distance >= cap {
+            return Ok(None);
+        }
+        if !search.is_at(f, distance) {
+            search.take();
+        } else if search.is_goal(f) {
+            return Ok(Some(f));
+        } else {
+            search.take();
+            pass(search, graph, arcs, bounds, cap, f, distance)?;
+        }
+    }
+    Ok(None)
+}
+
+/// Gives shorter labels along the arcs from FPGA `f`, which has this distance.
+fn pass<A: ArcLengths, B: LowerBounds>(
+    search: &mut Search,
+    graph: &BoardGraph,
+    arcs: &A,
+    bounds: &B,
+    cap: u64,
+    f: u32,
+    distance: u64,
+) -> Result<(), AllocError>
+    requires arcs { length graph.now.wires ≤ A.arcs_covered arcs.now }
+    requires bounds { graph.now.fpgas ≤ B.bounds_covered bounds.now }
+    requires small { distance < 2 ^ 64 - 2 ^ 51 }
+    requires there { f < graph.now.fpgas }
+    requires passing { IsPassing (board_of graph.now)
+        (A.arc_length arcs.now) (B.lower_bound bounds.now) cap f distance search.old }
+    ensures under_way { OnOk result
+        (IsUnderWay (board_of graph.now) (A.arc_length arcs.now) (B.lower_bound bounds.now) cap search.new) }
+    ensures marks { KeepsMarks search.old search.new }
+    ensures on { OnOk result (GoesOn search.old search.new) }
+{
+    for x in graph.neighbours(f) {
+        let length = arcs.arc_len(x.wire, f, x.fpga);
+        let far = distance + length;
+        reach(search, x.wire, x.fpga, far, bounds, cap)?;
+    }
+    Ok(())
+}
+
+/// Gives FPGA `v` this distance and wire `e`, if that is shorter than its label, and below the cap with the
+/// lower bound.
+fn reach<B: LowerBounds>(
+    search: &mut Search,
+    e: u32,
+    v: u32,
+    distance: u64,
+    bounds: &B,
+    cap: u64,
+) -> Result<(), AllocError>
+    requires there { v < length search.old.labels }
+    requires bounds { v < B.bounds_covered bounds.now }
+    ensures reached { OnOk result
+        (IsReached (B.lower_bound bounds.now) cap v e distance search.old search.new) }
+    ensures marks { KeepsMarks search.old search.new }
+{
+    if let Some(near) = search.distance(v) {
+        if near <= distance {
+            return Ok(());
+        }
+    }
+    if distance < cap && bounds.bound_of(v) < cap - distance {
+        search.lower(v, distance, Some(e))?;
+    }
+    Ok(())
+}

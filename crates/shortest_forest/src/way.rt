@@ -1,0 +1,31 @@
+//! The way back from an FPGA to a source of a search.
+ghost use Rattle.std.specs.Prelude.{◌≡◌, ◌++◌, ◌<◌, ℕ, List, length, OnOk};
+ghost use Rattle.board_graph.specs.Graph.{board_of};
+ghost use Rattle.shortest_forest.specs.Labels.{IsWayBack};
+
+use crate::baseline::other_end;
+use crate::labels::Search;
+use board_graph::BoardGraph;
+use std::alloc::AllocError;
+
+/// Appends the wires that lead from FPGA `f`, which has a label, back to a source.
+pub fn way_back(
+    search: &Search,
+    graph: &BoardGraph,
+    f: u32,
+    wires: &mut Vec<u32>,
+) -> Result<(), AllocError>
+    requires there { f < graph.now.fpgas }
+    requires count { length search.now.labels ≡ graph.now.fpgas }
+    requires back { (es : List ℕ) × ((source : ℕ) × IsWayBack (board_of graph.now) search.now f es source) }
+    ensures { OnOk result ((es : List ℕ) × ((source : ℕ) × IsWayBack (board_of graph.now) search.now f es source
+        × (wires.new.items ≡ wires.old.items ++ es))) }
+{
+    let mut at = f;
+    while let Some(e) = search.wire(at) {
+        wires.push(e)?;
+        let wire = graph.wire(e);
+        at = other_end(wire, at);
+    }
+    Ok(())
+}
