@@ -4,7 +4,7 @@
 ghost use Rattle.std.specs.Prelude.{◌≡◌, ◌++◌, IsTrue, OnOk, OnErr, IsErrOf};
 ghost use Rattle.std.specs.List.{flat_map};
 ghost use Rattle.tdm_desk.specs.Seen.{output_is_open, written, PrefixWritten};
-ghost use Rattle.tdm_desk.specs.Counts.{CountsFaults, WritingFailed};
+ghost use Rattle.tdm_desk.specs.Counts.{CountsFaults, CountsOnlyWriting, WritingFailed};
 ghost use Rattle.tdm_lines.specs.Written.{line_text};
 ghost use Rattle.text_writer.specs.Writing.{IsUnderWay};
 ghost use Rattle.bound_cert.specs.CertText.{number_of_kind, unit_of_kind, header_row, number_line, cert_text};
@@ -26,6 +26,7 @@ pub fn write_cert<D: Desk>(desk: &mut D, slot: OutSlot, cert: &Certificate) -> R
         (D.seen desk.old) (D.seen desk.new)) }
     ensures failed { IsErrOf result DeskFault.Failed →
         WritingFailed D.counts D.steady desk.old desk.new }
+    ensures own { CountsOnlyWriting D.counts result desk.old desk.new }
     ensures counted { CountsFaults D.counts D.steady desk.old desk.new }
 {
     let mut pending = Pending::new();
@@ -72,6 +73,7 @@ fn put_header<D: Desk>(
         (D.seen desk.old) (D.seen desk.new)) }
     ensures failed { IsErrOf result DeskFault.Failed →
         WritingFailed D.counts D.steady desk.old desk.new }
+    ensures own { CountsOnlyWriting D.counts result desk.old desk.new }
     ensures counted { CountsFaults D.counts D.steady desk.old desk.new }
 {
     let kind = cert.kind();
@@ -100,6 +102,7 @@ fn put_potentials<D: Desk>(
         (D.seen desk.old) (D.seen desk.new)) }
     ensures failed { IsErrOf result DeskFault.Failed →
         WritingFailed D.counts D.steady desk.old desk.new }
+    ensures own { CountsOnlyWriting D.counts result desk.old desk.new }
     ensures counted { CountsFaults D.counts D.steady desk.old desk.new }
 {
     for p in 0..cert.potentials() {
@@ -122,6 +125,7 @@ fn put_choices<D: Desk>(
         (D.seen desk.old) (D.seen desk.new)) }
     ensures failed { IsErrOf result DeskFault.Failed →
         WritingFailed D.counts D.steady desk.old desk.new }
+    ensures own { CountsOnlyWriting D.counts result desk.old desk.new }
     ensures counted { CountsFaults D.counts D.steady desk.old desk.new }
 {
     for choice in choices {

@@ -4,7 +4,7 @@
 ghost use Rattle.std.specs.Prelude.{◌≡◌, ◌≤◌, [], ◌∷◌, ◌++◌, length, IsTrue, OnOk, OnErr, IsErrOf};
 ghost use Rattle.std.specs.List.{flat_map};
 ghost use Rattle.tdm_desk.specs.Seen.{output_is_open, written, PrefixWritten};
-ghost use Rattle.tdm_desk.specs.Counts.{CountsFaults, WritingFailed};
+ghost use Rattle.tdm_desk.specs.Counts.{CountsFaults, CountsOnlyWriting, WritingFailed};
 ghost use Rattle.solution_text.specs.Text.{use_line, net_text, solution_text};
 ghost use Rattle.text_writer.specs.Writing.{number_then, IsUnderWay};
 
@@ -29,6 +29,7 @@ pub fn write_solution<D: Desk>(
         (D.seen desk.old) (D.seen desk.new)) }
     ensures failed { IsErrOf result DeskFault.Failed →
         WritingFailed D.counts D.steady desk.old desk.new }
+    ensures own { CountsOnlyWriting D.counts result desk.old desk.new }
     ensures counted { CountsFaults D.counts D.steady desk.old desk.new }
 {
     let mut pending = Pending::new();
@@ -51,6 +52,7 @@ fn put_use<D: Desk>(
         (D.seen desk.old) (D.seen desk.new)) }
     ensures failed { IsErrOf result DeskFault.Failed →
         WritingFailed D.counts D.steady desk.old desk.new }
+    ensures own { CountsOnlyWriting D.counts result desk.old desk.new }
     ensures counted { CountsFaults D.counts D.steady desk.old desk.new }
 {
     put_number(desk, slot, pending, used.wire as u64, b' ')?;
@@ -72,6 +74,7 @@ fn put_uses<D: Desk>(
         (D.seen desk.old) (D.seen desk.new)) }
     ensures failed { IsErrOf result DeskFault.Failed →
         WritingFailed D.counts D.steady desk.old desk.new }
+    ensures own { CountsOnlyWriting D.counts result desk.old desk.new }
     ensures counted { CountsFaults D.counts D.steady desk.old desk.new }
 {
     for used in uses {
@@ -94,6 +97,7 @@ fn put_net<D: Desk>(
         (D.seen desk.old) (D.seen desk.new)) }
     ensures failed { IsErrOf result DeskFault.Failed →
         WritingFailed D.counts D.steady desk.old desk.new }
+    ensures own { CountsOnlyWriting D.counts result desk.old desk.new }
     ensures counted { CountsFaults D.counts D.steady desk.old desk.new }
 {
     put_number(desk, slot, pending, uses.len() as u64, b'\n')?;
@@ -115,6 +119,7 @@ fn put_nets<D: Desk>(
         (D.seen desk.old) (D.seen desk.new)) }
     ensures failed { IsErrOf result DeskFault.Failed →
         WritingFailed D.counts D.steady desk.old desk.new }
+    ensures own { CountsOnlyWriting D.counts result desk.old desk.new }
     ensures counted { CountsFaults D.counts D.steady desk.old desk.new }
 {
     for net in 0..solution.nets() {

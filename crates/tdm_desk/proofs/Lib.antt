@@ -1,6 +1,7 @@
 pub mod SlotLaws
 pub mod FileLaws
 pub mod CountLaws
+pub mod PlanLaws
 pub mod SeenLaws
 pub mod StepLaws
 pub mod LoadLaws

@@ -4,12 +4,11 @@ use Rattle.std.specs.Prelude.{Option, Some, None, is_some}
 use Rattle.tdm_desk.specs.declared.slots.InSlot.{InSlot}
 use Rattle.tdm_desk.specs.declared.slots.OutSlot.{OutSlot}
 use Rattle.tdm_desk.specs.declared.slots.Place.{Place}
-use Rattle.tdm_desk.specs.declared.slots.Place.TheVariants.{First, Second, Third}
 use Rattle.tdm_desk.specs.declared.slots.Slots.{Slots}
 use Rattle.tdm_desk.specs.Slots.{at, put, map_slots, input_place, output_place}
 use Rattle.tdm_desk.specs.Files.{Bytes, Name, Files}
 use Rattle.tdm_desk.specs.Seen.{opened, input_closed, taken, created, output_closed, written, said, input_is_open, output_is_open, files_of, rest_of}
-use Rattle.tdm_desk.specs.Counts.{Counts, CountsFaults, ReadingFailed, WritingFailed, read_faults, write_faults, Rose}
+use Rattle.tdm_desk.specs.Counts.{Counts, CountsFaults, read_faults, write_faults}
 use Rattle.tdm_desk.specs.RealDesk.{RealDesk, seen_of_real, counts_of_real, never}
 use Rattle.tdm_desk.proofs.SlotLaws.{at-put, put-at, put-put, at-map, map-put}
 
@@ -32,21 +31,6 @@ module _ {F : Type 0} where
 
 -- ---- the counts
 
-pub other_kept : (place other : Place) (raised : ℕ) (old new : Slots ℕ) → new ≡ put place raised old → at place old ≤ raised → at other old ≤ at other new
-unfolding at put
-other_kept place other raised old new is more = subst (λ s. at other old ≤ at other s) (sym is) (by place other more)
-  where
-    by : (p q : Place) → at p old ≤ raised → at q old ≤ at q (put p raised old)
-    by First First h = h
-    by First Second h = omega arith
-    by First Third h = omega arith
-    by Second First h = omega arith
-    by Second Second h = h
-    by Second Third h = omega arith
-    by Third First h = omega arith
-    by Third Second h = omega arith
-    by Third Third h = h
-
 counts_kept : (old new : RealDesk) → ((slot : InSlot) → read_faults slot old.counts ≤ read_faults slot new.counts) → write_faults old.counts ≤ write_faults new.counts → CountsFaults counts_of_real never old new
 counts_kept old new reading writing = record {
   reading_kept = reading;
@@ -59,40 +43,6 @@ pub counts_same : (old new : RealDesk) → new.counts ≡ old.counts → CountsF
 counts_same old new same = counts_kept old new
     (λ slot. let e = ap (read_faults slot) same in omega (arith, e))
     (let e = ap write_faults same in omega (arith, e))
-
--- one count of reading was raised
-pub reading_counted : (slot : InSlot) (place : Place) (raised : ℕ) (old new : RealDesk) → place ≡ input_place slot → at place old.counts.reading ≤ raised
-    → new ≡ record old { counts = record { reading = put place raised old.counts.reading; writing = old.counts.writing } } → CountsFaults counts_of_real never old new
-unfolding read_faults write_faults
-reading_counted slot place raised old new here more is = counts_kept old new
-    (λ other. other_kept place (input_place other) raised old.counts.reading new.counts.reading (ap (λ (d : RealDesk). d.counts.reading) is) more)
-    (let e = ap (λ (d : RealDesk). d.counts.writing) is in omega (arith, e))
-
-pub reading_failed : (slot : InSlot) (place : Place) (raised : ℕ) (old new : RealDesk) → place ≡ input_place slot → Rose (at place old.counts.reading) raised
-    → new ≡ record old { counts = record { reading = put place raised old.counts.reading; writing = old.counts.writing } } → ReadingFailed counts_of_real never slot old new
-unfolding read_faults
-reading_failed slot place raised old new here more is =
-    let now : at (input_place slot) new.counts.reading ≡ raised =
-    ap (λ (d : RealDesk). at (input_place slot) d.counts.reading) is
-    ∙ ap (λ p. at (input_place slot) (put p raised old.counts.reading)) here
-    ∙ at-put (input_place slot) raised old.counts.reading in
-    let was : at place old.counts.reading ≡ at (input_place slot) old.counts.reading = ap (λ p. at p old.counts.reading) here in
-    record { rose = omega (arith, now, was, more); unsteady = λ is. is }
-
--- the count of writing was raised
-pub writing_counted : (raised : ℕ) (old new : RealDesk) → old.counts.writing ≤ raised
-    → new ≡ record old { counts = record { reading = old.counts.reading; writing = raised } } → CountsFaults counts_of_real never old new
-unfolding read_faults write_faults
-writing_counted raised old new more is = counts_kept old new
-    (λ slot. let e = ap (λ (d : RealDesk). at (input_place slot) d.counts.reading) is in omega (arith, e))
-    (let e = ap (λ (d : RealDesk). d.counts.writing) is in omega (arith, e, more))
-
-pub writing_failed : (raised : ℕ) (old new : RealDesk) → Rose old.counts.writing raised
-    → new ≡ record old { counts = record { reading = old.counts.reading; writing = raised } } → WritingFailed counts_of_real never old new
-unfolding write_faults
-writing_failed raised old new more is =
-    let e = ap (λ (d : RealDesk). d.counts.writing) is in
-    record { rose = omega (arith, e, more); unsteady = λ is. is }
 
 -- what is seen does not hold the counts
 pub seen_counted : (counts : Counts) (old new : RealDesk) → new ≡ record old { counts = counts } → seen_of_real new ≡ seen_of_real old
@@ -149,12 +99,3 @@ no_files desk files is = absurd (let e : None ≡ Some files = is in cc)
 pub no_rest : {P : Type 0} (slot : InSlot) (desk : RealDesk) (rest : Bytes) → rest_of slot (seen_of_real desk) ≡ Some rest → P
 unfolding seen_of_real rest_of
 no_rest slot desk rest is = absurd (let e : None ≡ Some rest = is in cc)
-
--- what is known of the desk after one of its counts of reading was changed
-pub reading_changed : (place : Place) (raised writing : ℕ) (reading later : Slots ℕ) (inputs outputs : Slots Bool) (old : RealDesk)
-    → later ≡ put place raised reading → record { counts = record { reading = reading; writing = writing }; inputs = inputs; outputs = outputs } ≡ old
-    → record { counts = record { reading = later; writing = writing }; inputs = inputs; outputs = outputs }
-    ≡ record old { counts = record { reading = put place raised old.counts.reading; writing = old.counts.writing } }
-reading_changed place raised writing reading later inputs outputs old is-later is-old =
-    ap (λ r. record { counts = record { reading = r; writing = writing }; inputs = inputs; outputs = outputs }) is-later
-    ∙ ap (λ (d : RealDesk). record d { counts = record { reading = put place raised d.counts.reading; writing = d.counts.writing } }) is-old

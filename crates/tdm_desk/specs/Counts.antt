@@ -1,10 +1,11 @@
 -- The counts of a desk's faults, and what may be known of them over any number of its calls.
-use Rattle.std.specs.Prelude.{◌≡◌, ℕ, ◌+◌, ◌-◌, ◌^◌, ◌≤◌, min, Result, Ok, Err}
+use Rattle.std.specs.Prelude.{◌≡◌, ℕ, ◌+◌, ◌-◌, ◌^◌, ◌≤◌, min, Result, Ok, Err, refl}
+use Rattle.std.specs.Coded.{Coded, code_by, coded×, coded_ℕ}
 use Rattle.tdm_desk.specs.declared.calls.DeskFault.{DeskFault}
 use Rattle.tdm_desk.specs.declared.calls.DeskFault.TheVariants.{Failed, NoMemory}
 use Rattle.tdm_desk.specs.declared.slots.InSlot.{InSlot}
 use Rattle.tdm_desk.specs.declared.slots.Slots.{Slots}
-use Rattle.tdm_desk.specs.Slots.{at, put, input_place}
+use Rattle.tdm_desk.specs.Slots.{at, put, input_place, slots_code}
 
 -- how many faults there were so far: of each input, and of all that is written or said
 pub record Counts : Type 0 where
@@ -27,6 +28,10 @@ with_read_faults slot faults counts = record counts { reading = put (input_place
 unfoldable pub with_write_faults : ℕ → Counts → Counts
 with_write_faults faults counts = record counts { writing = faults }
 
+-- no fault was ever counted
+abbrev pub no_faults : Counts
+no_faults = record { reading = record { first = 0; second = 0; third = 0 }; writing = 0 }
+
 -- where a count stops: it is kept in 64 bits
 unfoldable pub last_count : ℕ
 last_count = 2 ^ 64 - 1
@@ -34,6 +39,18 @@ last_count = 2 ^ 64 - 1
 -- a count is greater than it was, or stands where it stops
 abbrev pub Rose : ℕ → ℕ → Type 0
 Rose before after = min (before + 1) last_count ≤ after
+
+-- one more fault of an input was counted, or its count stands where it stops
+pub record ReadCounted (slot : InSlot) (before after : Counts) : Type 0 where
+  pub only : after ≡ with_read_faults slot (read_faults slot after) before
+  pub kept : read_faults slot before ≤ read_faults slot after
+  pub rose : Rose (read_faults slot before) (read_faults slot after)
+
+-- one more fault of what is written or said was counted, or its count stands where it stops
+pub record WriteCounted (before after : Counts) : Type 0 where
+  pub only : after ≡ with_write_faults (write_faults after) before
+  pub kept : write_faults before ≤ write_faults after
+  pub rose : Rose (write_faults before) (write_faults after)
 
 module _ {D : Type 0} (counts : D → Counts) (steady : D → Type 0) where
   -- from one state of a desk to a later one: no count fell, and a steady desk stayed steady and kept its counts
@@ -73,3 +90,9 @@ module _ {D : Type 0} (counts : D → Counts) where
   abbrev pub CountsOnlyWriting : {A : Type 0} → Result A DeskFault → D → D → Type 0
   CountsOnlyWriting (Ok answer) before after = counts after ≡ counts before
   CountsOnlyWriting (Err fault) before after = CountsWriteFault fault before after
+
+-- counts are stored as a pair of those of reading and that of writing
+abbrev pub counts_code : Coded Counts
+counts_code =
+    code_by (Slots ℕ × ℕ) (coded× (slots_code coded_ℕ) coded_ℕ) (λ c. (c.reading, c.writing))
+    (λ p. record { reading = p.0; writing = p.1 }) (λ _. refl)

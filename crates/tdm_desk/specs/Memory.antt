@@ -4,10 +4,9 @@ use Rattle.std.specs.FinMap.{empty}
 use Rattle.std.specs.FinMap as map
 use Rattle.std.specs.Coded.{Coded, code_by, coded×, coded_ℕ, coded_list, coded_option}
 use Rattle.tdm_desk.specs.declared.slots.Slots.{Slots}
-use Rattle.tdm_desk.specs.Slots.{map_slots}
+use Rattle.tdm_desk.specs.Slots.{map_slots, slots_code}
 use Rattle.tdm_desk.specs.Files.{Bytes, Name, Files}
 use Rattle.tdm_desk.specs.Seen.{Seen}
-use Rattle.tdm_desk.specs.Counts.{Counts}
 
 -- its files, what each open input still gives, the name of each open output, and what was said
 pub record Memory : Type 0 where
@@ -36,16 +35,6 @@ seen_in_memory m = record {
     said = m.said;
   });
 }
-
--- no fault was ever counted
-abbrev pub no_faults : Counts
-no_faults = record { reading = record { first = 0; second = 0; third = 0 }; writing = 0 }
-
--- three values are stored as a pair of one and the two others
-abbrev pub slots_code : {A : Type 0} → Coded A → Coded (Slots A)
-slots_code {A} code =
-    code_by (A × (A × A)) (coded× code (coded× code code)) (λ s. (s.first, (s.second, s.third)))
-    (λ p. record { first = p.0; second = p.1.0; third = p.1.1 }) (λ _. refl)
 
 -- what a desk in memory holds is stored as pairs of its parts
 abbrev pub memory_code : Coded Memory

@@ -1,10 +1,10 @@
 -- What is known of a desk of real files: its counts, and which slots are open.
-use Rattle.std.specs.Prelude.{ℕ, Bool, false, None, refl}
-use Rattle.std.specs.Coded.{Coded, code_by, coded×, coded_ℕ, coded_bool}
+use Rattle.std.specs.Prelude.{Bool, false, None, refl}
+use Rattle.std.specs.Coded.{Coded, code_by, coded×, coded_bool}
 use Rattle.tdm_desk.specs.declared.slots.Slots.{Slots}
+use Rattle.tdm_desk.specs.Slots.{slots_code}
 use Rattle.tdm_desk.specs.Seen.{Seen}
-use Rattle.tdm_desk.specs.Counts.{Counts}
-use Rattle.tdm_desk.specs.Memory.{no_faults, slots_code}
+use Rattle.tdm_desk.specs.Counts.{Counts, counts_code, no_faults}
 
 -- its counts of faults, and whether a file is open at each place
 pub record RealDesk : Type 0 where
@@ -35,7 +35,7 @@ never _ = ⊥
 -- what is known of a desk of real files is stored as pairs of its parts
 abbrev pub real_desk_code : Coded RealDesk
 real_desk_code =
-    code_by ((Slots ℕ × ℕ) × (Slots Bool × Slots Bool))
-    (coded× (coded× (slots_code coded_ℕ) coded_ℕ) (coded× (slots_code coded_bool) (slots_code coded_bool)))
-    (λ d. ((d.counts.reading, d.counts.writing), (d.inputs, d.outputs)))
-    (λ p. record { counts = record { reading = p.0.0; writing = p.0.1 }; inputs = p.1.0; outputs = p.1.1 }) (λ _. refl)
+    code_by (Counts × (Slots Bool × Slots Bool))
+    (coded× counts_code (coded× (slots_code coded_bool) (slots_code coded_bool)))
+    (λ d. (d.counts, (d.inputs, d.outputs)))
+    (λ p. record { counts = p.0; inputs = p.1.0; outputs = p.1.1 }) (λ _. refl)

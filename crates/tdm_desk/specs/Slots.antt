@@ -1,4 +1,6 @@
 -- Three places, the value at one of them, and a change of one of them.
+use Rattle.std.specs.Prelude.{refl}
+use Rattle.std.specs.Coded.{Coded, code_by, coded×}
 use Rattle.tdm_desk.specs.declared.slots.InSlot.{InSlot}
 use Rattle.tdm_desk.specs.declared.slots.InSlot.TheVariants.{In0, In1, In2}
 use Rattle.tdm_desk.specs.declared.slots.OutSlot.{OutSlot}
@@ -35,3 +37,9 @@ module _ {A : Type 0} where
 -- a function of what stands at each place
 abbrev pub map_slots : {A B : Type 0} → (A → B) → Slots A → Slots B
 map_slots f s = record { first = f s.first; second = f s.second; third = f s.third }
+
+-- three values are stored as a pair of one and the two others
+abbrev pub slots_code : {A : Type 0} → Coded A → Coded (Slots A)
+slots_code {A} code =
+    code_by (A × (A × A)) (coded× code (coded× code code)) (λ s. (s.first, (s.second, s.third)))
+    (λ p. record { first = p.0; second = p.1.0; third = p.1.1 }) (λ _. refl)

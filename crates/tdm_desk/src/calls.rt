@@ -1,9 +1,11 @@
 //! The calls that a program makes on the outside world.
-ghost use Rattle.std.specs.Prelude.{◌≡◌, ◌≤◌, ◌<◌, ◌↔◌, ℕ, [], List, length, take, if◌then◌else◌, IsTrue, IfOk, OnOk, OnErr, IsErrOf};
+ghost use Rattle.std.specs.Prelude.{◌≡◌, ◌≤◌, ◌<◌, ◌↔◌, ℕ, [], List, length, take, if◌then◌else◌, Option, option_map, IsTrue, IfOk, OnOk, OnErr, IsErrOf};
 ghost use Rattle.std.specs.Option.{ForSome};
 ghost use Rattle.std.specs.FinMap.{contains_key};
 ghost use Rattle.tdm_desk.specs.Seen.{Seen, opened, input_closed, taken, created, output_closed, written, said, input_is_open, output_is_open, files_of, rest_of};
 ghost use Rattle.tdm_desk.specs.Counts.{Counts, CountsFaults, CountsOnlyReading, CountsOnlyWriting, ReadingFailed, WritingFailed};
+ghost use Rattle.tdm_desk.specs.Plan.{fails_next, after_reading, after_writing};
+ghost use Rattle.tdm_desk.specs.declared.plan.Plan.{Plan};
 ghost use Rattle.tdm_desk.specs.declared.calls.DeskFault.TheVariants.{NoMemory};
 
 use crate::slots::{InSlot, OutSlot};
@@ -43,6 +45,9 @@ pub trait Desk {
     // the desk never fails again
     ghost steady: { Self → Type 0 };
 
+    // which later calls fail and how much one of them moves, if the desk knows
+    ghost plan: { Self → Option Plan };
+
     /// Opens the file of this name as an input, and answers whether there is one.
     ///
     /// The slot is closed where there is none, and after a fault.
@@ -52,6 +57,9 @@ pub trait Desk {
         ensures found { IfOk result (λ found. ForSome (files_of (seen self.old))
             (λ files. found ≡ contains_key files name.now)) }
         ensures err { OnErr result (seen self.new ≡ input_closed slot (seen self.old)) }
+        ensures foreseen { ForSome (plan self.old) (λ known.
+            IsErrOf result DeskFault.Failed ↔ IsTrue (fails_next known.reading)) }
+        ensures nearer { plan self.new ≡ option_map after_reading (plan self.old) }
         ensures failed { IsErrOf result DeskFault.Failed →
             ReadingFailed counts steady slot self.old self.new }
         ensures own { CountsOnlyReading counts slot result self.old self.new }
@@ -64,12 +72,16 @@ pub trait Desk {
         requires is_open { IsTrue (input_is_open slot (seen self.old)) }
         requires has_room { 0 < length buf.old }
         ensures within { IfOk result (λ count. count ≤ length buf.new) }
+        ensures bounded { IfOk result (λ count. ForSome (plan self.old) (λ known. count ≤ known.most)) }
         ensures ok { IfOk result (λ count. seen self.new ≡ taken slot count (seen self.old)) }
         ensures bytes { IfOk result (λ count. ForSome (rest_of slot (seen self.old))
             (λ rest. take count buf.new ≡ take count rest)) }
         ensures end { IfOk result (λ count. ForSome (rest_of slot (seen self.old))
             (λ rest. (count ≡ 0) ↔ (rest ≡ []))) }
         ensures err { OnErr result (seen self.new ≡ seen self.old) }
+        ensures foreseen { ForSome (plan self.old) (λ known.
+            IsErrOf result DeskFault.Failed ↔ IsTrue (fails_next known.reading)) }
+        ensures nearer { plan self.new ≡ option_map after_reading (plan self.old) }
         ensures failed { IsErrOf result DeskFault.Failed →
             ReadingFailed counts steady slot self.old self.new }
         ensures own { CountsOnlyReading counts slot result self.old self.new }
@@ -81,6 +93,9 @@ pub trait Desk {
     fn create(&mut self, slot: OutSlot, name: &str) -> Result<(), DeskFault>
         ensures ok { OnOk result (seen self.new ≡ created slot name.now (seen self.old)) }
         ensures err { OnErr result (seen self.new ≡ output_closed slot (seen self.old)) }
+        ensures foreseen { ForSome (plan self.old) (λ known.
+            IsErrOf result DeskFault.Failed ↔ IsTrue (fails_next known.writing)) }
+        ensures nearer { plan self.new ≡ option_map after_writing (plan self.old) }
         ensures failed { IsErrOf result DeskFault.Failed →
             WritingFailed counts steady self.old self.new }
         ensures own { CountsOnlyWriting counts result self.old self.new }
@@ -94,9 +109,13 @@ pub trait Desk {
         requires not_empty { 0 < length piece.now }
         ensures some { IfOk result (λ count. 0 < count) }
         ensures within { IfOk result (λ count. count ≤ length piece.now) }
+        ensures bounded { IfOk result (λ count. ForSome (plan self.old) (λ known. count ≤ known.most)) }
         ensures ok { IfOk result (λ count.
             seen self.new ≡ written slot (take count piece.now) (seen self.old)) }
         ensures err { OnErr result (seen self.new ≡ seen self.old) }
+        ensures foreseen { ForSome (plan self.old) (λ known.
+            IsErrOf result DeskFault.Failed ↔ IsTrue (fails_next known.writing)) }
+        ensures nearer { plan self.new ≡ option_map after_writing (plan self.old) }
         ensures failed { IsErrOf result DeskFault.Failed →
             WritingFailed counts steady self.old self.new }
         ensures own { CountsOnlyWriting counts result self.old self.new }
@@ -106,6 +125,9 @@ pub trait Desk {
     fn finish(&mut self, slot: OutSlot) -> Result<(), DeskFault>
         requires { IsTrue (output_is_open slot (seen self.old)) }
         ensures closed { seen self.new ≡ output_closed slot (seen self.old) }
+        ensures foreseen { ForSome (plan self.old) (λ known.
+            IsErrOf result DeskFault.Failed ↔ IsTrue (fails_next known.writing)) }
+        ensures nearer { plan self.new ≡ option_map after_writing (plan self.old) }
         ensures failed { IsErrOf result DeskFault.Failed →
             WritingFailed counts steady self.old self.new }
         ensures own { CountsOnlyWriting counts result self.old self.new }
@@ -118,9 +140,13 @@ pub trait Desk {
         requires { 0 < length piece.now }
         ensures some { IfOk result (λ count. 0 < count) }
         ensures within { IfOk result (λ count. count ≤ length piece.now) }
+        ensures bounded { IfOk result (λ count. ForSome (plan self.old) (λ known. count ≤ known.most)) }
         ensures ok { IfOk result (λ count.
             seen self.new ≡ said (take count piece.now) (seen self.old)) }
         ensures err { OnErr result (seen self.new ≡ seen self.old) }
+        ensures foreseen { ForSome (plan self.old) (λ known.
+            IsErrOf result DeskFault.Failed ↔ IsTrue (fails_next known.writing)) }
+        ensures nearer { plan self.new ≡ option_map after_writing (plan self.old) }
         ensures failed { IsErrOf result DeskFault.Failed →
             WritingFailed counts steady self.old self.new }
         ensures own { CountsOnlyWriting counts result self.old self.new }

@@ -6,10 +6,13 @@
 #![tactic(auto)]
 
 mod calls;
+mod fault_counts;
 mod file_table;
 mod loading;
 mod memory_desk;
+mod memory_store;
 mod open_input;
+mod plan;
 mod slots;
 mod std_desk;
 mod writing;

@@ -1,194 +1,189 @@
-//! A desk in memory, for tests and trials, whose every byte the contracts know.
-ghost use Rattle.std.specs.Prelude.{◌≡◌, length, min, take, drop, string_bytes, option_map, IsSome, OnOk, OnErr, IfOk, ⊤};
-ghost use Rattle.std.specs.Option.{ForSome, option_copied};
+//! A desk in memory, for tests and trials, whose every byte and every fault the contracts know.
+ghost use Rattle.std.specs.Prelude.{◌≡◌, ◌<◌, ◌++◌, [], ◌∷◌, false, Some, IsTrue, OnOk, OnErr};
+ghost use Rattle.std.specs.Option.{option_copied};
 ghost use Rattle.std.specs.FinMap as map;
-ghost use Rattle.tdm_desk.specs.Files.{with_file, with_more};
-ghost use Rattle.tdm_desk.specs.Slots.{at, put};
-ghost use Rattle.tdm_desk.specs.Memory.{empty_memory, seen_in_memory, no_faults};
+ghost use Rattle.tdm_desk.specs.Files.{with_file};
+ghost use Rattle.tdm_desk.specs.Memory.{empty_memory, seen_in_memory};
+ghost use Rattle.tdm_desk.specs.Counts.{no_faults, ReadCounted, WriteCounted};
+ghost use Rattle.tdm_desk.specs.Plan.{fails_next, after_reading, after_writing, NoneToCome};
 
 use crate::calls::{Desk, DeskFault};
-use crate::file_table::FileTable;
-use crate::open_input::OpenInput;
-use crate::slots::{InSlot, OutSlot, Place, Slots};
+use crate::fault_counts::FaultCounts;
+use crate::memory_store::MemoryStore;
+use crate::plan::{PieceLimit, Plan};
+use crate::slots::{InSlot, OutSlot};
 use std::alloc::{AllocError, Global};
-use std::marker::Model;
 
-/// A desk in memory. It tells its bytes, and it is steady: none of its calls answers
-/// `DeskFault::Failed`.
+/// A desk in memory. It tells its bytes, and just those of its calls answer `DeskFault::Failed` that were planned to. It is
+/// steady where no planned failure is still to come.
 #[derive(Drop)]
 pub struct MemoryDesk {
-    files: FileTable,
-    inputs: Slots<Option<OpenInput>>,
-    outputs: Slots<Option<String>>,
-    report: Vec<u8>,
-    alloc: Global,
-}
-
-impl Model for MemoryDesk {
-    ghost use Rattle.std.specs.Prelude.{option_map, string_bytes};
-    ghost use Rattle.tdm_desk.specs.Slots.{map_slots};
-    ghost use Rattle.tdm_desk.specs.Memory.{Memory, memory_code};
-
-    ghost Value = { Memory };
-
-    ghost coded = { memory_code };
-
-    ghost view = { λ desk. record {
-      files = desk.files;
-      inputs = desk.inputs;
-      outputs = map_slots (option_map string_bytes) desk.outputs;
-      said = desk.report.items;
-    } };
+    memory: MemoryStore,
+    plan: Plan,
+    faults: FaultCounts,
 }
 
 impl MemoryDesk {
-    /// A desk with no files, on which nothing is open and nothing was said.
+    /// A desk with no files, on which nothing is open, nothing was said, no failure is planned and pieces have no bound.
     pub fn new(alloc: Global) -> MemoryDesk
-        ensures { result ≡ empty_memory }
+        ensures memory { result.memory ≡ empty_memory }
+        ensures plan { NoneToCome result.plan }
+        ensures most { result.plan.most ≡ usize.MAX }
+        ensures faults { result.faults ≡ no_faults }
     {
         MemoryDesk {
-            files: FileTable::new(alloc),
-            inputs: Slots {
-                first: None,
-                second: None,
-                third: None,
-            },
-            outputs: Slots {
-                first: None,
-                second: None,
-                third: None,
-            },
-            report: Vec::new(alloc),
-            alloc,
+            memory: MemoryStore::new(alloc),
+            plan: Plan::new(alloc),
+            faults: FaultCounts::new(),
         }
     }
 
     /// Makes the file of this name hold these bytes. Where memory is wanting, nothing changes.
     pub fn put_file(&mut self, name: &str, bytes: &[u8]) -> Result<(), AllocError>
-        ensures ok { OnOk result (self.new ≡ record self.old { files = with_file name.now bytes.now self.old.files }) }
+        ensures ok { OnOk result (self.new ≡ record self.old {
+          memory = record self.old.memory { files = with_file name.now bytes.now self.old.memory.files };
+        }) }
         ensures err { OnErr result (self.new ≡ self.old) }
     {
-        self.files.put(name, bytes)
+        self.memory.put_file(name, bytes)
     }
 
     /// What the file of this name holds, and None where there is no such file.
     pub fn file(&self, name: &str) -> Option<&[u8]>
-        ensures { option_copied result ≡ map.get self.now.files name.now }
+        ensures { option_copied result ≡ map.get self.now.memory.files name.now }
     {
-        self.files.get(name)
+        self.memory.file(name)
     }
 
     /// All that was said so far.
     pub fn report(&self) -> &[u8]
-        ensures { result.now ≡ self.now.said }
+        ensures { result.now ≡ self.now.memory.said }
     {
-        self.report.as_slice()
+        self.memory.report()
     }
 
-    /// The input that the file of this name gives, and None where there is no such file.
-    fn input_of(&self, name: &str) -> Result<Option<OpenInput>, AllocError>
-        ensures { IfOk result (λ input. input ≡ map.get self.now.files name.now) }
-    {
-        match self.files.get(name) {
-            Some(bytes) => Ok(Some(OpenInput::new(self.alloc, bytes)?)),
-            None => Ok(None),
-        }
-    }
-
-    /// Puts an input, or none, at a place.
-    fn put_input(&mut self, place: Place, input: Option<OpenInput>)
-        ensures { self.new ≡ record self.old { inputs = put place input self.old.inputs } }
-    {
-        self.inputs.put(place, input);
-    }
-
-    /// Lets the input at a place give its next bytes to the front of `buf`, and answers how many.
-    fn give(&mut self, place: Place, buf: &mut [u8]) -> usize
-        requires { IsSome (at place self.old.inputs) }
-        ensures count { ForSome (at place self.old.inputs) (λ rest. result
-            ≡ min (length buf.new) (length rest)) }
-        ensures bytes { ForSome (at place self.old.inputs) (λ rest. take result buf.new ≡ take result rest) }
-        ensures rest { ForSome (at place self.old.inputs) (λ rest.
-            self.new ≡ record self.old { inputs = put place (Some (drop result rest)) self.old.inputs }) }
-    {
-        match self.inputs.replace(place, None) {
-            Some(mut input) => {
-                let count = input.give(buf);
-                self.inputs.put(place, Some(input));
-                count
-            }
-            None => unreachable!(),
-        }
-    }
-
-    /// Puts the name of an open output, or none, at a place.
-    fn put_output(&mut self, place: Place, name: Option<String>)
-        ensures { self.new ≡ record self.old {
-          outputs = put place (option_map string_bytes name) self.old.outputs;
-        } }
-    {
-        self.outputs.put(place, name);
-    }
-
-    /// Adds bytes to the file of the output at a place.
-    fn append(&mut self, place: Place, more: &[u8]) -> Result<(), AllocError>
-        requires { IsSome (at place self.old.outputs) }
-        ensures ok { OnOk result (ForSome (at place self.old.outputs) (λ name.
-            self.new ≡ record self.old { files = with_more name more.now self.old.files })) }
+    /// Makes one later call fail: the one that comes as the `calls`-th from now, counted over those that open or read an
+    /// input. It may be called several times. Where memory is wanting, nothing changes.
+    pub fn fail_read(&mut self, calls: u64) -> Result<(), AllocError>
+        requires { 0 < calls }
+        ensures ok { OnOk result (self.new ≡ record self.old {
+          plan = record self.old.plan { reading = self.old.plan.reading ++ calls ∷ [] };
+        }) }
         ensures err { OnErr result (self.new ≡ self.old) }
     {
-        match self.outputs.get(place) {
-            Some(name) => self.files.append(name.as_str(), more),
-            None => unreachable!(),
+        self.plan.reading.add(calls)
+    }
+
+    /// Makes one later call fail: the one that comes as the `calls`-th from now, counted over those that create, write,
+    /// finish or say. It may be called several times. Where memory is wanting, nothing changes.
+    pub fn fail_write(&mut self, calls: u64) -> Result<(), AllocError>
+        requires { 0 < calls }
+        ensures ok { OnOk result (self.new ≡ record self.old {
+          plan = record self.old.plan { writing = self.old.plan.writing ++ calls ∷ [] };
+        }) }
+        ensures err { OnErr result (self.new ≡ self.old) }
+    {
+        self.plan.writing.add(calls)
+    }
+
+    /// Bounds each later read, write and say to so many bytes.
+    pub fn set_piece(&mut self, most: usize)
+        requires { 0 < most }
+        ensures { self.new ≡ record self.old { plan = record self.old.plan { most = most } } }
+    {
+        self.plan.most = PieceLimit::new(most);
+    }
+
+    /// Whether the call on an input that is made now is planned to fail. If it is, its fault is counted.
+    fn fails_reading(&mut self, slot: InSlot) -> bool
+        ensures answer { result ≡ fails_next self.old.plan.reading }
+        ensures memory { self.new.memory ≡ self.old.memory }
+        ensures plan { self.new.plan ≡ after_reading self.old.plan }
+        ensures met { IsTrue result → ReadCounted slot self.old.faults self.new.faults }
+        ensures not_met { result ≡ false → self.new.faults ≡ self.old.faults }
+    {
+        let fails = self.plan.reading.next_call();
+        if fails {
+            self.faults.count_read(slot);
         }
+        fails
+    }
+
+    /// Whether the call that writes or says and is made now is planned to fail. If it is, its fault is counted.
+    fn fails_writing(&mut self) -> bool
+        ensures answer { result ≡ fails_next self.old.plan.writing }
+        ensures memory { self.new.memory ≡ self.old.memory }
+        ensures plan { self.new.plan ≡ after_writing self.old.plan }
+        ensures met { IsTrue result → WriteCounted self.old.faults self.new.faults }
+        ensures not_met { result ≡ false → self.new.faults ≡ self.old.faults }
+    {
+        let fails = self.plan.writing.next_call();
+        if fails {
+            self.faults.count_write();
+        }
+        fails
     }
 }
 
 impl Desk for MemoryDesk {
-    ghost counts = { λ _. no_faults };
+    ghost counts = { λ desk. desk.faults };
 
-    ghost seen = { seen_in_memory };
+    ghost seen = { λ desk. seen_in_memory desk.memory };
 
-    ghost steady = { λ _. ⊤ };
+    ghost steady = { λ desk. NoneToCome desk.plan };
+
+    ghost plan = { λ desk. Some desk.plan };
 
     fn open_input(&mut self, slot: InSlot, name: &str) -> Result<bool, DeskFault> {
-        match self.input_of(name) {
-            Ok(input) => {
-                let found = input.is_some();
-                self.put_input(slot.place(), input);
-                Ok(found)
-            }
-            Err(_) => {
-                self.put_input(slot.place(), None);
-                Err(DeskFault::NoMemory)
-            }
+        if self.fails_reading(slot) {
+            self.memory.close_input(slot);
+            return Err(DeskFault::Failed);
         }
+        let found = self.memory.open_input(slot, name)?;
+        Ok(found)
     }
 
     fn read(&mut self, slot: InSlot, buf: &mut [u8]) -> Result<usize, DeskFault> {
-        Ok(self.give(slot.place(), buf))
+        if self.fails_reading(slot) {
+            return Err(DeskFault::Failed);
+        }
+        let most = self.plan.most.of(buf.len());
+        Ok(self.memory.read(slot, &mut buf[..most]))
     }
 
     fn create(&mut self, slot: OutSlot, name: &str) -> Result<(), DeskFault> {
-        self.put_output(slot.place(), None);
-        let kept = String::from_str(self.alloc, name)?;
-        self.put_file(name, &[])?;
-        self.put_output(slot.place(), Some(kept));
+        if self.fails_writing() {
+            self.memory.close_output(slot);
+            return Err(DeskFault::Failed);
+        }
+        self.memory.create(slot, name)?;
         Ok(())
     }
 
     fn write(&mut self, slot: OutSlot, piece: &[u8]) -> Result<usize, DeskFault> {
-        self.append(slot.place(), piece)?;
-        Ok(piece.len())
+        if self.fails_writing() {
+            return Err(DeskFault::Failed);
+        }
+        let count = self.plan.most.of(piece.len());
+        self.memory.write(slot, &piece[..count])?;
+        Ok(count)
     }
 
     fn finish(&mut self, slot: OutSlot) -> Result<(), DeskFault> {
-        self.put_output(slot.place(), None);
+        let fails = self.fails_writing();
+        self.memory.close_output(slot);
+        if fails {
+            return Err(DeskFault::Failed);
+        }
         Ok(())
     }
 
     fn say(&mut self, piece: &[u8]) -> Result<usize, DeskFault> {
-        self.report.extend_from_slice(piece)?;
-        Ok(piece.len())
+        if self.fails_writing() {
+            return Err(DeskFault::Failed);
+        }
+        let count = self.plan.most.of(piece.len());
+        self.memory.say(&piece[..count])?;
+        Ok(count)
     }
 }

@@ -1,11 +1,13 @@
 //! The desk of real files and the standard output.
-ghost use Rattle.std.specs.Prelude.{◌≡◌, ◌≤◌, ℕ, length, IsTrue, IfOk, is_some, false};
+ghost use Rattle.std.specs.Prelude.{◌≡◌, ◌≤◌, None, length, IsTrue, IfOk, is_some, false};
 ghost use Rattle.tdm_desk.specs.Slots.{at, put};
-ghost use Rattle.tdm_desk.specs.Counts.{Rose, CountsFaults, ReadingFailed, WritingFailed, with_read_faults, with_write_faults};
+ghost use Rattle.tdm_desk.specs.Counts.{CountsFaults, CountsReadFault, CountsWriteFault, ReadingFailed, WritingFailed};
 ghost use Rattle.tdm_desk.specs.RealDesk.{untouched, seen_of_real, counts_of_real, never};
 
 use crate::calls::{Desk, DeskFault};
+use crate::fault_counts::FaultCounts;
 use crate::slots::{InSlot, OutSlot, Place, Slots};
+use std::fs::OpenFile;
 use std::io::{ErrorKind, Read, Write};
 use std::marker::Model;
 use std::rt::Files;
@@ -20,8 +22,7 @@ pub struct StdDesk<R: Files + Print + Drop> {
     runtime: R,
     inputs: Slots<Option<R::File>>,
     outputs: Slots<Option<R::File>>,
-    read_faults: Slots<u64>,
-    write_faults: u64,
+    faults: FaultCounts,
 }
 
 impl<R: Files + Print + Drop> Model for StdDesk<R> {
@@ -34,7 +35,7 @@ impl<R: Files + Print + Drop> Model for StdDesk<R> {
     ghost coded = { real_desk_code };
 
     ghost view = { λ desk. record {
-      counts = record { reading = desk.read_faults; writing = desk.write_faults };
+      counts = desk.faults;
       inputs = map_slots is_some desk.inputs;
       outputs = map_slots is_some desk.outputs;
     } };
@@ -57,12 +58,7 @@ impl<R: Files + Print + Drop> StdDesk<R> {
                 second: None,
                 third: None,
             },
-            read_faults: Slots {
-                first: 0,
-                second: 0,
-                third: 0,
-            },
-            write_faults: 0,
+            faults: FaultCounts::new(),
         }
     }
 
@@ -112,13 +108,13 @@ impl<R: Files + Print + Drop> StdDesk<R> {
         }
     }
 
-    /// Closes the output at a place.
+    /// Asks the system to take the bytes of the output at a place, and closes it.
     fn close_file(&mut self, place: Place) -> io::Result<()>
         requires { IsTrue (at place self.old.outputs) }
         ensures { self.new ≡ record self.old { outputs = put place false self.old.outputs } }
     {
         match self.outputs.replace(place, None) {
-            Some(mut file) => file.flush(),
+            Some(file) => taken_by_the_system(&file),
             None => unreachable!(),
         }
     }
@@ -127,32 +123,35 @@ impl<R: Files + Print + Drop> StdDesk<R> {
     fn count_read_fault(&mut self, slot: InSlot)
         ensures seen { seen_of_real self.new ≡ seen_of_real self.old }
         ensures failed { ReadingFailed counts_of_real never slot self.old self.new }
-        ensures own { (faults : ℕ) × (self.new.counts ≡ with_read_faults slot faults self.old.counts) }
+        ensures own { CountsReadFault counts_of_real slot DeskFault.Failed self.old self.new }
         ensures counted { CountsFaults counts_of_real never self.old self.new }
     {
-        let place = slot.place();
-        let count = raised(*self.read_faults.get(place));
-        self.read_faults.put(place, count);
+        self.faults.count_read(slot);
     }
 
     /// Counts a fault of what is written or said.
     fn count_write_fault(&mut self)
         ensures seen { seen_of_real self.new ≡ seen_of_real self.old }
         ensures failed { WritingFailed counts_of_real never self.old self.new }
-        ensures own { (faults : ℕ) × (self.new.counts ≡ with_write_faults faults self.old.counts) }
+        ensures own { CountsWriteFault counts_of_real DeskFault.Failed self.old self.new }
         ensures counted { CountsFaults counts_of_real never self.old self.new }
     {
-        self.write_faults = raised(self.write_faults);
+        self.faults.count_write();
     }
 }
 
-/// One more, or the same where the count stands at its last value.
-#[tactic(auto, unfolding(crate::specs::Counts::last_count))]
-fn raised(count: u64) -> u64
-    ensures kept { count ≤ result }
-    ensures rose { Rose count result }
-{
-    count.saturating_add(1)
+/// Asks the system to take the bytes of a file. Of a pipe, a terminal or a device it may be unable to do so, and then
+/// nothing is left to take.
+fn taken_by_the_system<F: OpenFile>(file: &F) -> io::Result<()> {
+    match file.sync_all() {
+        Err(error) if has_no_store(error.kind()) => Ok(()),
+        answer => answer,
+    }
+}
+
+/// Whether an error of this kind says that what was written to has no store, so that there is none to wait for.
+fn has_no_store(kind: ErrorKind) -> bool {
+    matches!(kind, ErrorKind::InvalidInput | ErrorKind::Unsupported)
 }
 
 impl<R: Files + Print + Drop> Desk for StdDesk<R> {
@@ -161,6 +160,8 @@ impl<R: Files + Print + Drop> Desk for StdDesk<R> {
     ghost seen = { seen_of_real };
 
     ghost steady = { never };
+
+    ghost plan = { λ _. None };
 
     fn open_input(&mut self, slot: InSlot, name: &str) -> Result<bool, DeskFault> {
         match fs::open(&self.runtime, name) {

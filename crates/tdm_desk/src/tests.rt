@@ -70,6 +70,64 @@ fn a_desk_in_memory_writes_over_an_open_input_and_says(rt: HostRuntime) -> Resul
     Ok(())
 }
 
+/// Opens an input that is there, reads twice from it, and answers which of the calls failed.
+#[tactic(auto, using(crate::proofs::SeenLaws::after_calls))]
+fn failing_reads<D: Desk>(desk: &mut D) -> [bool; 3] {
+    let opened = desk.open_input(InSlot::In1, "b");
+    let mut failed = [opened.is_err(), true, true];
+    if let Ok(true) = opened {
+        let mut buf = [0; 8];
+        failed[1] = desk.read(InSlot::In1, &mut buf).is_err();
+        failed[2] = desk.read(InSlot::In1, &mut buf).is_err();
+    }
+    failed
+}
+
+#[test]
+fn reads_fail_as_planned_from_the_call_of_the_plan_on(rt: HostRuntime) -> Result<(), DeskFault> {
+    let mut desk = MemoryDesk::new(rt.alloc());
+    desk.put_file("b", b"abc")?;
+    desk.fail_read(1)?;
+    assert_eq!(rt; failing_reads(&mut desk), [true; 3]);
+    desk.fail_read(2)?;
+    desk.fail_read(6)?;
+    assert_eq!(rt; failing_reads(&mut desk), [false, true, false]);
+    assert_eq!(rt; failing_reads(&mut desk), [false, false, true]);
+    assert_eq!(rt; failing_reads(&mut desk), [false; 3]);
+    Ok(())
+}
+
+/// Creates a file, writes to it, finishes it and says something, and answers which of the calls failed.
+#[tactic(auto, using(crate::proofs::SeenLaws::after_calls))]
+fn failing_writes<D: Desk>(desk: &mut D) -> [bool; 4] {
+    let mut failed = [true; 4];
+    failed[0] = desk.create(OutSlot::Out1, "c").is_err();
+    if !failed[0] {
+        failed[1] = desk.write(OutSlot::Out1, b"text").is_err();
+        failed[2] = desk.finish(OutSlot::Out1).is_err();
+    }
+    failed[3] = desk.say(b"said").is_err();
+    failed
+}
+
+#[test]
+fn writes_fail_as_planned_and_a_bound_on_pieces_holds(rt: HostRuntime) -> Result<(), DeskFault> {
+    let mut desk = MemoryDesk::new(rt.alloc());
+    desk.set_piece(1);
+    desk.fail_write(1)?;
+    desk.fail_write(2)?;
+    assert_eq!(rt; failing_writes(&mut desk), [true; 4]);
+    assert_eq!(rt; desk.file("c"), None);
+    desk.fail_write(2)?;
+    desk.fail_write(3)?;
+    assert_eq!(rt; failing_writes(&mut desk), [false, true, true, false]);
+    assert_eq!(rt; desk.file("c"), Some(&b""[..]));
+    assert_eq!(rt; failing_writes(&mut desk), [false; 4]);
+    assert_eq!(rt; desk.file("c"), Some(&b"t"[..]));
+    assert_eq!(rt; desk.report(), &b"ss"[..]);
+    Ok(())
+}
+
 #[test]
 fn a_desk_of_real_files_reads_what_it_wrote_and_fails_on_a_folder(
     rt: HostRuntime,
@@ -91,6 +149,7 @@ fn a_desk_of_real_files_reads_what_it_wrote_and_fails_on_a_folder(
     assert!(rt; loaded(rt.alloc(), &mut desk, InSlot::In2, ".", 9).is_err());
     assert!(rt; desk.create(OutSlot::Out1, ".").is_err());
     assert!(rt; write_two(&mut desk, OutSlot::Out0, name, b"first\nsecond\n").is_ok());
+    assert!(rt; write_two(&mut desk, OutSlot::Out2, "/dev/null", b"gone").is_ok());
     match loaded(rt.alloc(), &mut desk, InSlot::In0, name, 100) {
         Ok(bytes) => assert_eq!(rt; bytes.as_slice(), &b"first\nsecond\n"[..]),
         Err(_) => panic!(rt; "the file that was written could not be read"),

@@ -113,16 +113,18 @@ module _ {D : Type 0} (seen : D → Seen) (counts : D → Counts) (steady : D �
   brings_none pending desk = record {
     way = record { front = []; whole = sym (append-nil pending); is = sym (written-nothing slot (seen desk)) };
     counted = counts_nothing desk;
+    uncounted = refl;
   }
 
   module _ {X : Type 0} (f : X → Bytes) (xs : List X) (i : ℕ) (d : X) (lt : i < length xs) (pending rest : Bytes) (before between : D)
       (brings : Brings seen counts steady slot (pending ++ flat_map f (take i xs)) before rest between) where
     -- the text of one more
-    pub brings_more : (later : Bytes) (after : D) → IsUnderWay slot (rest ++ f (get_or xs i d)) (seen between) later (seen after) → CountsFaults counts steady between after
+    pub brings_more : (later : Bytes) (after : D) → IsUnderWay slot (rest ++ f (get_or xs i d)) (seen between) later (seen after) → CountsFaults counts steady between after → counts after ≡ counts between
         → Brings seen counts steady slot (pending ++ flat_map f (take (i + 1) xs)) before later after
-    brings_more later after way counted = record {
+    brings_more later after way counted uncounted = record {
       way = rw (flat_map-more f xs i d lt) (both_parts slot pending (flat_map f (take i xs)) (f (get_or xs i d)) (seen before) rest (seen between) later (seen after) brings.way way);
       counted = counts_both brings.counted counted;
+      uncounted = uncounted ∙ brings.uncounted;
     }
 
     -- a fault in it

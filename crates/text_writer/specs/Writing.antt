@@ -26,3 +26,4 @@ module _ {D : Type 0} (seen : D → Seen) (counts : D → Counts) (steady : D �
   pub record Brings (slot : OutSlot) (text : Bytes) (before : D) (pending : Bytes) (after : D) : Type 0 where
     pub way : IsUnderWay slot text (seen before) pending (seen after)
     pub counted : CountsFaults counts steady before after
+    pub uncounted : counts after ≡ counts before

@@ -3,7 +3,7 @@
 
 ghost use Rattle.std.specs.Prelude.{◌≡◌, ◌<◌, ◌≤◌, [], ◌++◌, length, IsTrue, OnOk, OnErr, IsErrOf};
 ghost use Rattle.tdm_desk.specs.Seen.{output_is_open, written, PrefixWritten};
-ghost use Rattle.tdm_desk.specs.Counts.{CountsFaults, WritingFailed};
+ghost use Rattle.tdm_desk.specs.Counts.{CountsFaults, CountsOnlyWriting, WritingFailed};
 ghost use Rattle.tdm_lines.specs.Written.{line_text};
 ghost use Rattle.text_writer.specs.Writing.{number_then, numbers_then, IsUnderWay};
 
@@ -22,6 +22,7 @@ pub fn flush<D: Desk>(desk: &mut D, slot: OutSlot, pending: &mut Pending) -> Res
         (D.seen desk.old) (D.seen desk.new)) }
     ensures failed { IsErrOf result DeskFault.Failed →
         WritingFailed D.counts D.steady desk.old desk.new }
+    ensures own { CountsOnlyWriting D.counts result desk.old desk.new }
     ensures counted { CountsFaults D.counts D.steady desk.old desk.new }
 {
     let written = write_whole(desk, slot, pending.as_slice());
@@ -45,6 +46,7 @@ fn put<D: Desk>(
     ensures emptied { OnErr result (pending.new ≡ []) }
     ensures failed { IsErrOf result DeskFault.Failed →
         WritingFailed D.counts D.steady desk.old desk.new }
+    ensures own { CountsOnlyWriting D.counts result desk.old desk.new }
     ensures counted { CountsFaults D.counts D.steady desk.old desk.new }
 {
     if pending.room() < piece.len() {
@@ -72,6 +74,7 @@ pub fn put_number<D: Desk>(
     ensures emptied { OnErr result (pending.new ≡ []) }
     ensures failed { IsErrOf result DeskFault.Failed →
         WritingFailed D.counts D.steady desk.old desk.new }
+    ensures own { CountsOnlyWriting D.counts result desk.old desk.new }
     ensures counted { CountsFaults D.counts D.steady desk.old desk.new }
 {
     put(desk, slot, pending, decimal(number as u128).as_bytes())?;
@@ -97,6 +100,7 @@ pub fn put_numbers<D: Desk>(
     ensures emptied { OnErr result (pending.new ≡ []) }
     ensures failed { IsErrOf result DeskFault.Failed →
         WritingFailed D.counts D.steady desk.old desk.new }
+    ensures own { CountsOnlyWriting D.counts result desk.old desk.new }
     ensures counted { CountsFaults D.counts D.steady desk.old desk.new }
 {
     for number in numbers {
@@ -123,6 +127,7 @@ pub fn put_line<D: Desk>(
     ensures emptied { OnErr result (pending.new ≡ []) }
     ensures failed { IsErrOf result DeskFault.Failed →
         WritingFailed D.counts D.steady desk.old desk.new }
+    ensures own { CountsOnlyWriting D.counts result desk.old desk.new }
     ensures counted { CountsFaults D.counts D.steady desk.old desk.new }
 {
     let last = numbers.len() - 1;

@@ -1,20 +1,16 @@
-use Rattle.std.proofs.Common.{◌∙◌, ap}
-use Rattle.std.proofs.lemmas.Result.{err_from_is_err_and}
-use Rattle.tdm_desk.specs.Memory.{seen_in_memory}
-use Rattle.tdm_desk.proofs.MemoryLaws.{finished_in_memory, created_in_steps}
+use Rattle.std.proofs.Common.{◌∙◌, sym, ap, arith, length}
+use Rattle.tdm_desk.specs.declared.plan.Plan.{Plan}
+use Rattle.tdm_desk.proofs.PlanLaws.{writing_counted, writing_failed, writing_worked_in_memory}
 use Rattle.tdm_desk.proofs.memory_desk.MemoryDeskDesk.create.Goals as goal
 
-pub returns-in_err-kept-clause-err : goal.returns-in_err-kept-clause-err
-returns-in_err-kept-clause-err c =
-    let p = err_from_is_err_and c.from_residual.result c.from_residual.ensures.1 in
-    rw p.1 (finished_in_memory c.args.slot c.place.result _ _ c.place.ensures c.put_output.ensures)
+pub returns-then-fails_writing-clause-failed : goal.returns-then-fails_writing-clause-failed
+returns-then-fails_writing-clause-failed c = λ _. writing_failed c.args.self.now _ (sym c.fails_writing.ensures.answer ∙ c.if-fails_writing.true) (c.fails_writing.ensures.met c.if-fails_writing.true)
 
-pub returns-in_err-put_file-clause-err : goal.returns-in_err-put_file-clause-err
-returns-in_err-put_file-clause-err c =
-    let p = err_from_is_err_and c.from_residual-in_err-put_file.result c.from_residual-in_err-put_file.ensures.1 in
-    rw p.1 (ap seen_in_memory c.in_err-put_file.ensures.err ∙ finished_in_memory c.args.slot c.place.result _ _ c.place.ensures c.put_output.ensures)
+pub returns-then-fails_writing-clause-counted : goal.returns-then-fails_writing-clause-counted
+returns-then-fails_writing-clause-counted c = writing_counted c.args.self.now _ (sym c.fails_writing.ensures.answer ∙ c.if-fails_writing.true) (c.fails_writing.ensures.met c.if-fails_writing.true)
 
-pub returns-clause-ok : goal.returns-clause-ok
-returns-clause-ok c =
-    created_in_steps c.args.slot c.args.name.now _ c.place.result c.place-2.result _ _ _ _ c.place.ensures c.place-2.ensures
-    c.in_ok-kept.ensures.ok c.put_output.ensures c.in_ok-put_file.ensures.ok c.put_output-2.ensures
+pub returns-in_err-create-clause-counted : goal.returns-in_err-create-clause-counted
+returns-in_err-create-clause-counted c = writing_worked_in_memory c.args.self.now _ c.fails_writing.ensures.plan (c.fails_writing.ensures.not_met c.if-fails_writing.false)
+
+pub returns-clause-counted : goal.returns-clause-counted
+returns-clause-counted c = writing_worked_in_memory c.args.self.now _ c.fails_writing.ensures.plan (c.fails_writing.ensures.not_met c.if-fails_writing.false)

@@ -1,27 +1,16 @@
-use Rattle.std.proofs.Common.{arith, length}
-use Rattle.tdm_desk.specs.Slots.{at}
-use Rattle.tdm_desk.proofs.MemoryLaws.{taken_in_memory, input_told, ends, open_input_in_memory, value_of}
+use Rattle.std.proofs.Common.{◌∙◌, sym, ap, arith, length, length-take}
+use Rattle.tdm_desk.specs.declared.plan.Plan.{Plan}
+use Rattle.tdm_desk.proofs.PlanLaws.{reading_counted, reading_failed, reading_worked_in_memory, within_plan}
 use Rattle.tdm_desk.proofs.memory_desk.MemoryDeskDesk.read.Goals as goal
 
-pub give-requires : goal.give-requires
-give-requires c = open_input_in_memory c.args.slot c.place.result c.args.self.now c.place.ensures c.requires.is_open
+pub returns-then-fails_reading-clause-failed : goal.returns-then-fails_reading-clause-failed
+returns-then-fails_reading-clause-failed c = λ _. reading_failed c.args.self.now _ c.args.slot (sym c.fails_reading.ensures.answer ∙ c.if-fails_reading.true) (c.fails_reading.ensures.met c.if-fails_reading.true)
 
-pub returns-clause-within : goal.returns-clause-within
-returns-clause-within c =
-    let rest = value_of (at c.place.result c.args.self.now.inputs) (open_input_in_memory c.args.slot c.place.result c.args.self.now c.place.ensures c.requires.is_open) in
-    omega (arith, c.give.ensures.count rest.0 rest.1)
+pub returns-then-fails_reading-clause-counted : goal.returns-then-fails_reading-clause-counted
+returns-then-fails_reading-clause-counted c = reading_counted c.args.self.now _ c.args.slot (sym c.fails_reading.ensures.answer ∙ c.if-fails_reading.true) (c.fails_reading.ensures.met c.if-fails_reading.true)
 
-pub returns-clause-ok : goal.returns-clause-ok
-returns-clause-ok c =
-    let rest = value_of (at c.place.result c.args.self.now.inputs) (open_input_in_memory c.args.slot c.place.result c.args.self.now c.place.ensures c.requires.is_open) in
-    taken_in_memory c.args.slot c.give.result rest.0 c.place.result _ _ c.place.ensures rest.1 (c.give.ensures.rest rest.0 rest.1)
+pub returns-clause-counted : goal.returns-clause-counted
+returns-clause-counted c = reading_worked_in_memory c.args.self.now _ c.fails_reading.ensures.plan (c.fails_reading.ensures.not_met c.if-fails_reading.false)
 
-pub returns-clause-bytes : goal.returns-clause-bytes
-returns-clause-bytes c = λ rest is.
-    c.give.ensures.bytes rest (input_told c.args.slot c.place.result c.args.self.now rest c.place.ensures c.requires.is_open is)
-
-pub returns-clause-end : goal.returns-clause-end
-returns-clause-end c = λ rest is.
-    ends c.give.result (length c.give.new.buf) rest
-    (c.give.ensures.count rest (input_told c.args.slot c.place.result c.args.self.now rest c.place.ensures c.requires.is_open is))
-    (omega arith)
+pub returns-clause-bounded : goal.returns-clause-bounded
+returns-clause-bounded c = λ known is. within_plan c.args.self.now.plan c.fails_reading.new.self.plan known _ (length c.args.buf.now) (ap (λ (p : Plan). p.most) c.fails_reading.ensures.plan) (omega (arith, c.of-most.ensures.least, c.read.ensures.within, c.read.auto.buf, length-take c.of-most.result c.args.buf.now)) is

@@ -1,14 +1,19 @@
-use Rattle.std.proofs.Common.{◌∙◌, ap}
-use Rattle.tdm_desk.specs.Seen.{written}
-use Rattle.tdm_desk.specs.Memory.{seen_in_memory}
-use Rattle.tdm_desk.proofs.MemoryLaws.{open_output_in_memory, written_in_memory, value_of, whole}
+use Rattle.std.proofs.Common.{◌∙◌, sym, ap, arith, length}
+use Rattle.tdm_desk.specs.declared.plan.Plan.{Plan}
+use Rattle.tdm_desk.proofs.PlanLaws.{writing_counted, writing_failed, writing_worked_in_memory, within_plan}
 use Rattle.tdm_desk.proofs.memory_desk.MemoryDeskDesk.write.Goals as goal
 
-pub append-requires : goal.append-requires
-append-requires c = open_output_in_memory c.args.slot c.place.result c.args.self.now c.place.ensures c.requires.is_open
+pub returns-then-fails_writing-clause-failed : goal.returns-then-fails_writing-clause-failed
+returns-then-fails_writing-clause-failed c = λ _. writing_failed c.args.self.now _ (sym c.fails_writing.ensures.answer ∙ c.if-fails_writing.true) (c.fails_writing.ensures.met c.if-fails_writing.true)
 
-pub returns-clause-ok : goal.returns-clause-ok
-returns-clause-ok c =
-    let name = value_of _ (open_output_in_memory c.args.slot c.place.result c.args.self.now c.place.ensures c.requires.is_open) in
-    written_in_memory c.args.slot c.args.piece.now name.0 c.place.result _ _ c.place.ensures name.1 (c.in_ok-append.ensures.ok name.0 name.1)
-    ∙ ap (λ bytes. written c.args.slot bytes (seen_in_memory c.args.self.now)) (whole c.args.piece.now)
+pub returns-then-fails_writing-clause-counted : goal.returns-then-fails_writing-clause-counted
+returns-then-fails_writing-clause-counted c = writing_counted c.args.self.now _ (sym c.fails_writing.ensures.answer ∙ c.if-fails_writing.true) (c.fails_writing.ensures.met c.if-fails_writing.true)
+
+pub returns-in_err-write-clause-counted : goal.returns-in_err-write-clause-counted
+returns-in_err-write-clause-counted c = writing_worked_in_memory c.args.self.now _ c.fails_writing.ensures.plan (c.fails_writing.ensures.not_met c.if-fails_writing.false)
+
+pub returns-clause-counted : goal.returns-clause-counted
+returns-clause-counted c = writing_worked_in_memory c.args.self.now _ c.fails_writing.ensures.plan (c.fails_writing.ensures.not_met c.if-fails_writing.false)
+
+pub returns-clause-bounded : goal.returns-clause-bounded
+returns-clause-bounded c = λ known is. within_plan c.args.self.now.plan c.fails_writing.new.self.plan known _ (length c.args.piece.now) (ap (λ (p : Plan). p.most) c.fails_writing.ensures.plan) (omega (arith, c.of-count.ensures.least)) is

@@ -14,7 +14,7 @@ unreachable-requires g c =
 pub returns : goal.returns
 returns g c =
     ap (λ outputs. record {
-      counts = record { reading = c.self.inside.read_faults; writing = c.self.inside.write_faults };
+      counts = c.self.inside.faults;
       inputs = map_slots is_some c.self.inside.inputs;
       outputs = outputs;
     }) (ap (map_slots is_some) c.replace.ensures.after ∙ map-put is_some c.args.place None c.self.inside.outputs)

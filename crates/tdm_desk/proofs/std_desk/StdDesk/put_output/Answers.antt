@@ -8,7 +8,7 @@ use Rattle.tdm_desk.proofs.std_desk.StdDesk.put_output.Goals as goal
 pub returns : goal.returns
 returns g c =
     ap (λ outputs. record {
-      counts = record { reading = c.self.inside.read_faults; writing = c.self.inside.write_faults };
+      counts = c.self.inside.faults;
       inputs = map_slots is_some c.self.inside.inputs;
       outputs = outputs;
     }) (ap (map_slots is_some) c.put.ensures ∙ map-put is_some c.args.place c.args.file c.self.inside.outputs)

@@ -13,7 +13,7 @@ unreachable-requires g c =
 pub returns-clause-same : goal.returns-clause-same
 returns-clause-same g c =
     ap (λ outputs. record {
-      counts = record { reading = c.self.inside.read_faults; writing = c.self.inside.write_faults };
+      counts = c.self.inside.faults;
       inputs = map_slots is_some c.self.inside.inputs;
       outputs = outputs;
     }) (put_back c.args.place c.in-Some.file c.write-answer.new.self c.self.inside.outputs _ _

@@ -5,7 +5,7 @@ use Rattle.tdm_desk.specs.Slots.{at, map_slots}
 use Rattle.tdm_desk.specs.Files.{with_more}
 use Rattle.tdm_desk.specs.Memory.{Memory}
 use Rattle.tdm_desk.proofs.SlotLaws.{at-map}
-use Rattle.tdm_desk.proofs.memory_desk.MemoryDesk.append.Goals as goal
+use Rattle.tdm_desk.proofs.memory_store.MemoryStore.append.Goals as goal
 
 pub unreachable-requires : goal.unreachable-requires
 unreachable-requires c =

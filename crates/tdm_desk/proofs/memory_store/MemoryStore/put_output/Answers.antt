@@ -3,7 +3,7 @@ use Rattle.std.specs.Prelude.{option_map}
 use Rattle.tdm_desk.specs.Slots.{put, map_slots}
 use Rattle.tdm_desk.specs.Memory.{Memory}
 use Rattle.tdm_desk.proofs.SlotLaws.{map-put}
-use Rattle.tdm_desk.proofs.memory_desk.MemoryDesk.put_output.Goals as goal
+use Rattle.tdm_desk.proofs.memory_store.MemoryStore.put_output.Goals as goal
 
 pub returns : goal.returns
 returns c =

@@ -3,7 +3,7 @@ use Rattle.std.specs.Prelude.{Some, None, option_map}
 use Rattle.tdm_desk.specs.Slots.{at, put, map_slots}
 use Rattle.tdm_desk.specs.Memory.{Memory}
 use Rattle.tdm_desk.proofs.SlotLaws.{put-put}
-use Rattle.tdm_desk.proofs.memory_desk.MemoryDesk.give.Goals as goal
+use Rattle.tdm_desk.proofs.memory_store.MemoryStore.give.Goals as goal
 
 pub returns-clause-rest : goal.returns-clause-rest
 returns-clause-rest c = λ rest is.
