@@ -40,7 +40,7 @@ module _ (es : List (ℕ × ℕ)) (total floors room : ℕ) (h : AreCounts es to
         ratios = subst (λ es. All IsRatio (keys_of es)) (sym is) (All-keys-insert_entry nat_cmp ratio (counted ratio es + 1) IsRatio es h.ratios ok);
         positive = subst (λ es. All (λ count. 0 < count) (values_of es)) (sym is) (All-values-insert_entry nat_cmp ratio (counted ratio es + 1) (λ count. 0 < count) es h.positive (omega arith));
         sum = let s = h.sum in let l = same.lengths in subst (λ es. total + 1 ≡ length (items_of es)) (sym is) (omega arith);
-        rounded = let f = h.rounded in let l = same.floors in subst (λ es. floors + floor_of ratio ≡ floor_sum (items_of es)) (sym is) (omega (arith, sum_by-cons floor_of ratio (items_of es)));
+        rounded = let f = h.rounded in let l = same.parts floor_of in subst (λ es. floors + floor_of ratio ≡ floor_sum (items_of es)) (sym is) (omega (arith, sum_by-cons floor_of ratio (items_of es)));
         few = omega arith;
         space = fits;
       }
@@ -63,7 +63,7 @@ module _ (es : List (ℕ × ℕ)) (total floors room : ℕ) (h : AreCounts es to
             (λ _. All-map-remove_entry (is_at (nat_cmp ratio)) (λ e. e.1) (λ count. 0 < count) es h.positive)
             (λ more. All-values-set_value (is_at (nat_cmp ratio)) (λ count. 0 < count) es (counted ratio es - 1) h.positive (omega arith)));
         sum = let s = h.sum in let l = same.lengths in subst (λ es. total - 1 ≡ length (items_of es)) (sym is) (omega arith);
-        rounded = let f = h.rounded in let l = same.floors in subst (λ es. floors - floor_of ratio ≡ floor_sum (items_of es)) (sym is) (omega (arith, sum_by-cons floor_of ratio (items_of (one_less ratio es))));
+        rounded = let f = h.rounded in let l = same.parts floor_of in subst (λ es. floors - floor_of ratio ≡ floor_sum (items_of es)) (sym is) (omega (arith, sum_by-cons floor_of ratio (items_of (one_less ratio es))));
         few = omega arith;
         space = omega arith;
       }

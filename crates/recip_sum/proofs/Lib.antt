@@ -10,3 +10,4 @@ pub mod Fractions
 pub mod Changes
 pub mod CountLaws
 pub mod Trials
+pub mod Members

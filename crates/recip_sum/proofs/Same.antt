@@ -1,26 +1,26 @@
 -- Lists with the same product and the same sum of reciprocals fit the same lanes, and the order of a list does not matter.
-use Rattle.std.proofs.Common.{length, take, get_or, ◌<◌, ◌+◌, ℕ, suc, ◌*◌, ◌≤◌, List, [], ◌∷◌, ◌++◌, arith, refl, sym, ap, subst, ◌∙◌}
+use Rattle.std.proofs.Common.{◌≡◌, length, take, get_or, ◌<◌, ◌+◌, ℕ, suc, ◌*◌, ◌≤◌, List, [], ◌∷◌, ◌++◌, arith, refl, sym, ap, subst, ◌∙◌}
 use Rattle.std.proofs.lemmas.List.{append-nil, take_more}
 use Rattle.tdm_problem.specs.Fit.{product, reciprocals, FitsLanes}
 use Rattle.recip_sum.specs.Items.{SameReciprocals}
-use Rattle.recip_sum.specs.Rounded.{floor_of}
+use Rattle.std.proofs.Math.Nat.{le_of_mul-le-mul_left}
 use Rattle.std.proofs.lemmas.List.Sums.{sum_by-cons}
 
 pub SameReciprocals-refl : (xs : List ℕ) → SameReciprocals xs xs
-SameReciprocals-refl xs = record { products = refl; sums = refl; lengths = refl; floors = refl }
+SameReciprocals-refl xs = record { products = refl; sums = refl; lengths = refl; parts = λ part. refl }
 
 pub SameReciprocals-sym : (xs ys : List ℕ) → SameReciprocals xs ys → SameReciprocals ys xs
-SameReciprocals-sym xs ys h = record { products = sym h.products; sums = sym h.sums; lengths = sym h.lengths; floors = sym h.floors }
+SameReciprocals-sym xs ys h = record { products = sym h.products; sums = sym h.sums; lengths = sym h.lengths; parts = λ part. sym (h.parts part) }
 
 pub SameReciprocals-trans : (xs ys zs : List ℕ) → SameReciprocals xs ys → SameReciprocals ys zs → SameReciprocals xs zs
-SameReciprocals-trans xs ys zs h i = record { products = h.products ∙ i.products; sums = h.sums ∙ i.sums; lengths = h.lengths ∙ i.lengths; floors = h.floors ∙ i.floors }
+SameReciprocals-trans xs ys zs h i = record { products = h.products ∙ i.products; sums = h.sums ∙ i.sums; lengths = h.lengths ∙ i.lengths; parts = λ part. h.parts part ∙ i.parts part }
 
 pub SameReciprocals-cons : (x : ℕ) (xs ys : List ℕ) → SameReciprocals xs ys → SameReciprocals (x ∷ xs) (x ∷ ys)
 SameReciprocals-cons x xs ys h = record {
   products = ap (λ p. x * p) h.products;
   sums = let p = h.products in let q = ap (λ s. x * s) h.sums in omega arith;
   lengths = ap suc h.lengths;
-  floors = sum_by-cons floor_of x xs ∙ ap (λ s. floor_of x + s) h.floors ∙ sym (sum_by-cons floor_of x ys);
+  parts = λ part. sum_by-cons part x xs ∙ ap (λ s. part x + s) (h.parts part) ∙ sym (sum_by-cons part x ys);
 }
 
 pub SameReciprocals-swap : (x y : ℕ) (xs : List ℕ) → SameReciprocals (x ∷ y ∷ xs) (y ∷ x ∷ xs)
@@ -28,7 +28,7 @@ SameReciprocals-swap x y xs = record {
   products = omega arith;
   sums = omega arith;
   lengths = refl;
-  floors = omega (arith, sum_by-cons floor_of x (y ∷ xs), sum_by-cons floor_of y xs, sum_by-cons floor_of y (x ∷ xs), sum_by-cons floor_of x xs);
+  parts = λ part. omega (arith, sum_by-cons part x (y ∷ xs), sum_by-cons part y xs, sum_by-cons part y (x ∷ xs), sum_by-cons part x xs);
 }
 
 -- an item from the middle goes to the front
@@ -52,5 +52,22 @@ pub SameReciprocals-take_more : (counted more xs : List ℕ) (i : ℕ) → i < l
 SameReciprocals-take_more counted more xs i within so_far step =
     subst (λ ys. SameReciprocals more ys) (sym (take_more xs i 0 within)) (SameReciprocals-more counted more (take i xs) (get_or xs i 0) so_far step)
 
+same_factor : (x a b : ℕ) → 0 < x → x * a ≡ x * b → a ≡ b
+same_factor x a b positive same =
+    let low : a ≤ b = le_of_mul-le-mul_left {k = x} (omega arith) positive in
+    let high : b ≤ a = le_of_mul-le-mul_left {k = x} (omega arith) positive in
+    omega arith
+
 pub FitsLanes-same : (xs ys : List ℕ) (lanes : ℕ) → SameReciprocals xs ys → FitsLanes xs lanes → FitsLanes ys lanes
 FitsLanes-same xs ys lanes h fits = subst (λ s. s ≤ lanes * product ys) h.sums (subst (λ p. reciprocals xs ≤ lanes * p) h.products fits)
+
+-- the same positive item taken from both
+pub SameReciprocals-cancel : (x : ℕ) (xs ys : List ℕ) → 0 < x → SameReciprocals (x ∷ xs) (x ∷ ys) → SameReciprocals xs ys
+SameReciprocals-cancel x xs ys positive h =
+    let p : product xs ≡ product ys = same_factor x (product xs) (product ys) positive h.products in
+    record {
+      products = p;
+      sums = same_factor x (reciprocals xs) (reciprocals ys) positive (let s = h.sums in omega arith);
+      lengths = let l = h.lengths in omega arith;
+      parts = λ part. omega (arith, h.parts part, sum_by-cons part x xs, sum_by-cons part x ys);
+    }

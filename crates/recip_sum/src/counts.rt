@@ -109,6 +109,7 @@ impl Counts {
         requires there { 0 < count_of self.old ratio }
         ensures less { self.new ≡ without_item self.old ratio }
         ensures same { SameReciprocals (ratio ∷ items self.new) (items self.old) }
+        ensures room { length (items self.new) < 2 ^ 20 }
     {
         count_one_less(&mut self.counts, ratio);
         self.total -= 1;
@@ -173,6 +174,16 @@ impl Counts {
         least_even_of(&self.counts, totals, &mut self.terms, lanes, steps)
     }
 
+    /// `least_even` for a caller that counts no steps.
+    pub fn least_ratio(&mut self, lanes: u64) -> u32
+        requires few { length (items self.old) < 2 ^ 20 }
+        requires room { FitsLanes (4294967294 ∷ items self.old) lanes }
+        ensures same { self.new ≡ self.old }
+        ensures least { IsLeastEven (items self.old) lanes result }
+    {
+        least_even_from::<Brand>(self, lanes, Blank::new(1))
+    }
+
     /// `at_most` for a caller that counts no steps.
     pub fn fits_lanes(&mut self, lanes: u64) -> bool
         ensures same { self.new ≡ self.old }
@@ -192,6 +203,20 @@ fn at_most_from<L: Ledger>(counts: &mut Counts, lanes: u64, blank: Blank) -> boo
 {
     let mut steps = Steps::<L>::new(blank);
     counts.at_most(lanes, &mut steps)
+}
+
+/// `least_even` with a counter of its own, over the new ledger.
+fn least_even_from<L: Ledger>(counts: &mut Counts, lanes: u64, blank: Blank) -> u32
+    requires name { blank.name ≡ L.name }
+    requires parts { blank.parts ≡ L.parts }
+    requires some { 0 < blank.parts }
+    requires few { length (items counts.old) < 2 ^ 20 }
+    requires room { FitsLanes (4294967294 ∷ items counts.old) lanes }
+    ensures same { counts.new ≡ counts.old }
+    ensures least { IsLeastEven (items counts.old) lanes result }
+{
+    let mut steps = Steps::<L>::new(blank);
+    counts.least_even(lanes, &mut steps)
 }
 
 /// Makes room for the terms of two ratios more than these, where there is none.

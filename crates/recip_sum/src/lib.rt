@@ -5,6 +5,7 @@
 mod counts;
 #[cfg(test)]
 mod definitions;
+mod laws;
 mod least_even;
 mod long_division;
 mod rounding;
@@ -13,5 +14,6 @@ mod steps;
 mod tests;
 
 pub use counts::Counts;
+pub use laws::items_are_counted;
 pub use rounding::{ceiling_of_reciprocal, floor_of_reciprocal};
 pub use steps::Steps;

@@ -72,19 +72,6 @@ fn compares_the_sum_of_reciprocals_exactly(rt: HostRuntime) -> Result<(), AllocE
     Ok(())
 }
 
-/// The least even ratio with which one more item fits so many lanes, where there is room for one more at all.
-fn least_even_with_new_steps<L: Ledger>(counts: &mut Counts, lanes: u64, blank: Blank) -> u32
-    requires name { blank.name ≡ L.name }
-    requires parts { blank.parts ≡ L.parts }
-    requires some { 0 < blank.parts }
-    requires few { length (items counts.old) < 2 ^ 20 }
-    requires room { FitsLanes (4294967294 ∷ items counts.old) lanes }
-    ensures { counts.new ≡ counts.old }
-{
-    let mut steps = Steps::<L>::new(blank);
-    counts.least_even(lanes, &mut steps)
-}
-
 /// The least even ratio beside these items on one lane; 0 where no ratio fits.
 fn least_even_beside(rt: &impl Abort, alloc: Global, ratios: &[u32]) -> Result<u32, AllocError> {
     let mut counts = counts_of(rt, alloc, ratios)?;
@@ -94,7 +81,7 @@ fn least_even_beside(rt: &impl Abort, alloc: Global, ratios: &[u32]) -> Result<u
         return Ok(0);
     }
     counts.remove(4294967294);
-    Ok(least_even_with_new_steps::<Brand>(&mut counts, 1, Blank::new(1)))
+    Ok(counts.least_ratio(1))
 }
 
 #[test]

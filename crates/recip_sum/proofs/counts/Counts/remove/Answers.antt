@@ -1,11 +1,11 @@
-use Rattle.std.proofs.Common.{◌∷◌, arith, ap, subst, ◌∙◌}
+use Rattle.std.proofs.Common.{◌∷◌, length, arith, ap, subst, ◌∙◌}
 use Rattle.recip_sum.specs.Counts.{items, without_item}
 use Rattle.recip_sum.specs.Items.{SameReciprocals}
 use Rattle.std.proofs.lemmas.List.Sums.{sum_by-cons}
 use Rattle.recip_sum.specs.Items.{items_of, one_less}
 use Rattle.recip_sum.specs.Rounded.{floor_of}
 use Rattle.recip_sum.proofs.Items.{counted-le, counted_is_positive}
-use Rattle.recip_sum.proofs.Views.{counted-positive, seen}
+use Rattle.recip_sum.proofs.Views.{counted-positive, items-seen, seen}
 use Rattle.recip_sum.proofs.Changes.{AreCounts-less, SameReciprocals-one_less, seen-less, same-less}
 use Rattle.recip_sum.proofs.counts.Counts.remove.Goals as goal
 
@@ -27,7 +27,7 @@ pub overflow_sub-self-2 : goal.overflow_sub-self-2
 overflow_sub-self-2 c =
     let es = c.self.inside.counts.entries in
     let there = counted-positive es c.args.ratio c.args.self.now c.self.invariant.ordered c.self.view_is c.requires.there in
-    let same = (SameReciprocals-one_less es _ _ _ c.self.invariant c.args.ratio there).floors in
+    let same = (SameReciprocals-one_less es _ _ _ c.self.invariant c.args.ratio there).parts floor_of in
     let more = sum_by-cons floor_of c.args.ratio (items_of (one_less c.args.ratio es)) in
     omega (arith, same, more, c.self.invariant.rounded, c.floor_of_reciprocal.ensures)
 
@@ -49,3 +49,12 @@ returns-clause-same c =
     let less = c.count_one_less.ensures in
     subst (λ m. SameReciprocals (c.args.ratio ∷ items (seen c.count_one_less.new.counts.entries)) (items m)) c.self.view_is
     (same-less c.self.inside.counts.entries c.self.inside.total _ _ c.self.invariant c.args.ratio c.count_one_less.new.counts.entries less.ordered there less.entries)
+
+pub returns-clause-room : goal.returns-clause-room
+returns-clause-room c =
+    let es = c.self.inside.counts.entries in
+    let there = counted-positive es c.args.ratio c.args.self.now c.self.invariant.ordered c.self.view_is c.requires.there in
+    let less = c.count_one_less.ensures in
+    let same = (SameReciprocals-one_less es _ _ _ c.self.invariant c.args.ratio there).lengths in
+    let now = ap length (items-seen c.count_one_less.new.counts.entries less.ordered ∙ ap items_of less.entries) in
+    omega (arith, same, now, c.self.invariant.sum, c.self.invariant.few)
