@@ -8,13 +8,10 @@ use Rattle.std.proofs.lemmas.Grind.{get_or-set_at}
 use Rattle.std.proofs.lemmas.List.{get_or-set_other, length-take, length-map, get_or-map, get_or_default}
 use Rattle.std.proofs.lemmas.List.Elements.{All-take}
 use Rattle.std.proofs.lemmas.List.Sums.{sum_by-append, sum_by-cons, sum_by-le, sum_by_more}
-use Rattle.std.proofs.lemmas.Nat.{mul-le}
 use Rattle.tdm_problem.specs.Limits.{most_nets}
 use Rattle.tdm_problem.specs.Trees.{HasRisingRows}
 use Rattle.tdm_problem.specs.Value.{largest}
-use Rattle.ratio_shares.specs.Shares.{least_claim, claims_of}
 use Rattle.ratio_shares.proofs.Claims.{least_claim-le}
-use Rattle.even_legalise.specs.Uniform.{nets_on}
 use Rattle.even_legalise.specs.Shared.{numbers_on}
 use Rattle.even_legalise.specs.Claims.{HasLargest, HasLeast, HasClaims}
 use Rattle.even_legalise.proofs.Numbers.{number_on, numbers_on_more, numbers_on-all, length-numbers_on, largest_append, raised_by, added_by}

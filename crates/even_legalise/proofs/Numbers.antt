@@ -1,13 +1,13 @@
 -- the numbers of the nets on a wire
-use Rattle.std.proofs.Common.{◌≡◌, ℕ, zero, suc, ◌+◌, ◌<◌, ◌≤◌, Bool, true, false, cond, List, [], ◌∷◌, ◌++◌, length, map, get_or, take, ap, sym, ◌∙◌, refl, arith, add-one, append_assoc}
+use Rattle.std.proofs.Common.{◌≡◌, ℕ, zero, suc, ◌+◌, ◌<◌, Bool, true, false, cond, List, [], ◌∷◌, ◌++◌, length, map, get_or, take, ap, sym, ◌∙◌, refl, arith, append_assoc}
 use Rattle.std.specs.Prelude.{◌==◌, All, max, filter, sum_by, count_by, if◌then◌else◌}
 use Rattle.std.specs.List.{fold, zip}
 use Rattle.std.proofs.lemmas.Bool.{eqb-true}
 use Rattle.std.proofs.lemmas.List.{length-map, length-append, map-append, append-nil}
 use Rattle.std.proofs.lemmas.List.Elements.{All-append, All-head, All-map, All-tail}
-use Rattle.std.proofs.lemmas.List.Sums.{sum_by-cons, sum_by-append, length-filter}
+use Rattle.std.proofs.lemmas.List.Sums.{sum_by-cons, length-filter}
 use Rattle.tdm_problem.specs.declared.solution.WireUse.{WireUse}
-use Rattle.tdm_problem.specs.Routing.{ratios_of, ratios_on, wires_of}
+use Rattle.tdm_problem.specs.Routing.{ratios_of, ratios_on}
 use Rattle.tdm_problem.specs.Value.{largest}
 use Rattle.even_legalise.specs.Uniform.{nets_on}
 use Rattle.even_legalise.specs.Shared.{numbers_on}

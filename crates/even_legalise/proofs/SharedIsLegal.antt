@@ -1,9 +1,8 @@
 -- the solution that shares give is legal
-use Rattle.std.proofs.Common.{◌≡◌, ◌≢◌, ℕ, zero, suc, ◌+◌, ◌*◌, ◌<◌, ◌≤◌, ◌^◌, List, [], ◌∷◌, length, map, get_or, ap, sym, ◌∙◌, subst, refl, arith}
-use Rattle.std.specs.Prelude.{All, AllPairs, Contains, sum, sum_by}
+use Rattle.std.proofs.Common.{◌≡◌, ◌≢◌, ℕ, ◌+◌, ◌*◌, ◌<◌, ◌≤◌, ◌^◌, List, [], ◌∷◌, length, map, get_or, ap, sym, ◌∙◌, subst, refl, arith}
+use Rattle.std.specs.Prelude.{All, AllPairs, Contains, sum_by}
 use Rattle.std.specs.List.{zip}
 use Rattle.std.specs.List.Sorted.{IsStrictlyIncreasing}
-use Rattle.std.proofs.lemmas.List.{length-map, get_or-map}
 use Rattle.std.proofs.lemmas.List.Elements.{All-map}
 use Rattle.std.proofs.lemmas.List.Sums.{sum_by-cons, sum-map}
 use Rattle.std.proofs.lemmas.Slice.Zip.{length-zip, get_or-zip}
@@ -13,10 +12,10 @@ use Rattle.tdm_problem.specs.Legal.{IsEvenRatio, IsLegal, terminals_of}
 use Rattle.tdm_problem.specs.Routing.{uses_of, wires_of, ratios_of, IsFor, HasRisingWires}
 use Rattle.tdm_problem.specs.Trees.{tree_of, AreTreesFor, HasRisingRows}
 use Rattle.tdm_problem.specs.Walk.{Joins}
-use Rattle.ratio_shares.specs.Shares.{share_in, shares_of}
+use Rattle.ratio_shares.specs.Shares.{share_in}
 use Rattle.ratio_shares.proofs.Claims.{share-least, shares-le}
 use Rattle.even_legalise.specs.Laws.{Shared}
-use Rattle.even_legalise.specs.Uniform.{nets_on, JoinsEachNet}
+use Rattle.even_legalise.specs.Uniform.{JoinsEachNet}
 use Rattle.even_legalise.specs.Shared.{even_ratio, numbers_on, shared_ratio, shared_uses, shared_routing}
 use Rattle.even_legalise.proofs.ClaimSteps.{numbers_on-le}
 use Rattle.even_legalise.proofs.Evens.{even_ratio-enough, even_ratio-even, even_ratio-le}

@@ -1,6 +1,6 @@
 -- what the loops over the nets make of the claims
-use Rattle.std.proofs.Common.{◌≡◌, ◌≢◌, ℕ, ◌+◌, ◌*◌, ◌<◌, ◌≤◌, ◌^◌, List, [], ◌∷◌, ◌++◌, length, map, get_or, take, ap, sym, ◌∙◌, subst, refl, arith}
-use Rattle.std.specs.Prelude.{All, AllPairs, max, sum, sum_by}
+use Rattle.std.proofs.Common.{◌≡◌, ℕ, ◌+◌, ◌*◌, ◌<◌, ◌≤◌, ◌^◌, List, [], ◌∷◌, ◌++◌, length, map, get_or, take, ap, sym, ◌∙◌, subst, refl, arith}
+use Rattle.std.specs.Prelude.{All, max, sum, sum_by}
 use Rattle.std.specs.List.{zip}
 use Rattle.std.proofs.lemmas.List.{take_more, length-map, get_or-map, map-append}
 use Rattle.std.proofs.lemmas.List.Elements.{All-head, All-tail}
@@ -10,7 +10,7 @@ use Rattle.tdm_problem.specs.declared.solution.WireUse.{WireUse}
 use Rattle.tdm_problem.specs.Board.{Board}
 use Rattle.tdm_problem.specs.Routing.{ratios_of}
 use Rattle.tdm_problem.specs.Trees.{tree_of, AreTreesFor, HasRisingRows}
-use Rattle.ratio_shares.specs.Shares.{claims_of, share_for, least_claim}
+use Rattle.ratio_shares.specs.Shares.{claims_of, share_for}
 use Rattle.ratio_shares.proofs.Claims.{claims-le, claims-positive, least_claim-le}
 use Rattle.even_legalise.specs.Uniform.{nets_on}
 use Rattle.even_legalise.specs.Shared.{even_ratio, numbers_on, shared_ratio, shared_uses, shared_routing}

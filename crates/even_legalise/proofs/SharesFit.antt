@@ -1,11 +1,10 @@
 -- ratios fit that are large enough for shares within the lanes
-use Rattle.std.proofs.Common.{◌≡◌, ℕ, ◌+◌, ◌*◌, ◌<◌, ◌≤◌, ◌^◌, List, [], ◌∷◌, map, ap, arith}
-use Rattle.std.specs.Prelude.{All, sum, sum_by}
+use Rattle.std.proofs.Common.{◌≡◌, ℕ, ◌+◌, ◌*◌, ◌≤◌, ◌^◌, List, [], ◌∷◌, map, ap, arith}
+use Rattle.std.specs.Prelude.{All, sum_by}
 use Rattle.std.proofs.lemmas.List.Elements.{All-head, All-tail}
 use Rattle.std.proofs.lemmas.List.Sums.{sum_by-cons}
 use Rattle.std.proofs.lemmas.Nat.{mul-le}
-use Rattle.std.proofs.Math.Nat.{le_of_mul-le-mul_right}
-use Rattle.tdm_problem.specs.Fit.{product, reciprocals, FitsLanes}
+use Rattle.tdm_problem.specs.Fit.{product, reciprocals}
 use Rattle.even_legalise.specs.Laws.{Shared, ShareLaw}
 
 -- one ratio more

@@ -1,5 +1,5 @@
 -- The solution that shares give: each net has of each wire of its tree a share in proportion to its number.
-use Rattle.std.specs.Prelude.{◌≡◌, ℕ, ◌*◌, ◌^◌, ◌≤◌, ◌==◌, List, [], ◌∷◌, ◌++◌, map, filter}
+use Rattle.std.specs.Prelude.{ℕ, ◌*◌, ◌^◌, ◌≤◌, ◌==◌, List, [], ◌∷◌, ◌++◌, map, filter}
 use Rattle.std.specs.Int.{div_ceil}
 use Rattle.std.specs.List.{zip}
 use Rattle.tdm_problem.specs.declared.solution.WireUse.{WireUse}

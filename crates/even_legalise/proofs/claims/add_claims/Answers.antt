@@ -1,5 +1,5 @@
-use Rattle.std.proofs.Common.{◌≡◌, ℕ, ◌+◌, ◌<◌, ◌≤◌, ◌^◌, length, get_or, take, ap, refl, arith}
-use Rattle.std.specs.Prelude.{◌==◌, max, sum_by, if◌then◌else◌}
+use Rattle.std.proofs.Common.{ℕ, ◌+◌, ◌<◌, ◌≤◌, ◌^◌, length, get_or, ap, refl, arith}
+use Rattle.std.specs.Prelude.{max}
 use Rattle.even_legalise.proofs.ClaimSteps.{add_step, added_before}
 use Rattle.even_legalise.proofs.claims.add_claims.Goals as goal
 

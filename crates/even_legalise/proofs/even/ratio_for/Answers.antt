@@ -1,4 +1,4 @@
-use Rattle.std.proofs.Common.{◌≡◌, ℕ, ◌+◌, ◌*◌, ◌<◌, ◌≤◌, ◌^◌, ap, sym, ◌∙◌, arith}
+use Rattle.std.proofs.Common.{◌≡◌, ℕ, ◌+◌, ◌*◌, ◌≤◌, ◌^◌, ap, sym, ◌∙◌, arith}
 use Rattle.std.proofs.lemmas.Nat.{le-div}
 use Rattle.ratio_shares.specs.Shares.{share_for}
 use Rattle.even_legalise.proofs.Evens.{ratio_by_claims}
