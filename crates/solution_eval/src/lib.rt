@@ -12,6 +12,7 @@ mod steps;
 mod worth;
 
 pub use judgement::{Verdict, judge};
+pub use overfull::count_ratios;
 pub use worth::value;
 
 #[cfg(test)]

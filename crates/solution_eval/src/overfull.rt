@@ -32,8 +32,9 @@ pub(crate) fn first_overfull(
     Ok(None)
 }
 
-/// Counts the ratios on each wire, in one pass over all uses.
-fn count_ratios(
+/// Counts the ratios on each wire, in one pass over all uses. All ratios are positive and even. The only error is want
+/// of memory.
+pub fn count_ratios(
     alloc: Global,
     problem: &Problem,
     solution: &Solution,

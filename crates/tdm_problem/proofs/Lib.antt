@@ -1,5 +1,6 @@
 pub mod Boards
 pub mod Fits
+pub mod Few
 pub mod Ratios
 pub mod Repeats
 pub mod Routings

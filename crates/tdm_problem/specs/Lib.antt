@@ -3,6 +3,7 @@ pub mod Board
 pub mod Fit
 pub mod Routing
 pub mod Trees
+pub mod Tight
 pub mod Walk
 pub mod Distance
 pub mod Legal

@@ -1,0 +1,4 @@
+pub mod Places
+pub mod Monotone
+pub mod Lowering
+pub mod Replacing

@@ -1,0 +1,3 @@
+pub mod Lowered
+pub mod Fitting
+pub mod Steps
