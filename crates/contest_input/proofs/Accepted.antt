@@ -95,15 +95,15 @@ all-below limit (n ∷ numbers) none =
     All-cons (λ x. x < limit) n numbers (leb-false limit n both.0) (all-below limit numbers both.1)
 
 -- a judgement of lines that list numbers: each below the limit, and no more than so many
-abbrev IsListing : (fault : ℕ → List ℕ → Option BoardKind) (limit most : ℕ) → Type 0
+abbrev pub IsListing : (fault : ℕ → List ℕ → Option BoardKind) (limit most : ℕ) → Type 0
 IsListing fault limit most = (listed : ℕ) (numbers : List ℕ) → fault listed numbers ≡ None → All (λ x. x < limit) numbers × (listed ≤ most)
 
-net-listing : (fpgas : ℕ) → IsListing (net_fault fpgas) fpgas most_listed_fpgas
+pub net-listing : (fpgas : ℕ) → IsListing (net_fault fpgas) fpgas most_listed_fpgas
 net-listing fpgas listed numbers none =
     let there = if-none _ _ _ none in
     (all-below fpgas numbers there.0, ltb-false most_listed_fpgas listed (if-none _ _ _ there.1).0)
 
-group-listing : (nets : ℕ) → IsListing (group_fault nets) nets most_listed_nets
+pub group-listing : (nets : ℕ) → IsListing (group_fault nets) nets most_listed_nets
 group-listing nets listed numbers none =
     let there = if-none _ _ _ none in
     (all-below nets numbers there.0, ltb-false most_listed_nets listed (if-none _ _ _ there.1).0)

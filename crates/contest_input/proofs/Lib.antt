@@ -3,4 +3,7 @@ pub mod Progress
 pub mod WireProgress
 pub mod ListProgress
 pub mod WholeText
+pub mod RoleLaws
+pub mod RoleSteps
+pub mod RoleFits
 pub mod Accepted

@@ -15,12 +15,12 @@ length-filter-le : (p : ℕ → Bool) (xs : List ℕ) → length (filter p xs) �
 length-filter-le p xs = omega (arith, length-filter p xs, count_by-le-length p xs)
 
 -- a row without its repeats is no longer
-length-without_repeats-le : (xs : List ℕ) → length (without_repeats xs) ≤ length xs
+pub length-without_repeats-le : (xs : List ℕ) → length (without_repeats xs) ≤ length xs
 length-without_repeats-le [] = omega arith
 length-without_repeats-le (x ∷ xs) = omega (arith, length-filter-le (λ y. not (x == y)) (without_repeats xs), length-without_repeats-le xs)
 
 -- the total of one more row
-sum_by-push : (rows : List (List ℕ)) (row : List ℕ) → sum_by length (rows ++ row ∷ []) ≡ sum_by length rows + length row
+pub sum_by-push : (rows : List (List ℕ)) (row : List ℕ) → sum_by length (rows ++ row ∷ []) ≡ sum_by length rows + length row
 sum_by-push rows row = sum_by-append length rows (row ∷ []) ∙ ap (λ n. sum_by length rows + n) (zero-add (length row))
 
 -- with so many lines left, the rows are those of the lines that were read, and have no more numbers than those

@@ -12,14 +12,7 @@ use Rattle.contest_input.specs.declared.kind.BoardKind.TheVariants.{MissingLine}
 use Rattle.contest_input.specs.Faults.{tokens_first}
 use Rattle.contest_input.specs.BoardText.{refused_at, judged, first_refusal}
 use Rattle.contest_input.specs.Sections.{next_refusal, next_numbers, later_lines, or_else, section_refusal, IsFor}
-
--- what stops the next lines of a section, where the earlier ones have so many numbers
-abbrev pub stop : (ℕ → List ℕ → Option BoardKind) → ℕ → ℕ → ℕ → List Line → Option BoardRefusal
-stop fault end earlier zero lines = None
-stop fault end earlier (suc left) [] = Some (record { kind = MissingLine; line = end })
-stop fault end earlier (suc left) (line ∷ later) =
-    let listed = earlier + length line.numbers in
-    or_else (refused_at line.number (tokens_first line.fault (fault listed line.numbers))) (stop fault end listed left later)
+use Rattle.contest_input.specs.Roles.{stop}
 
 -- a first refusal is the first judgement's, or else that of the later ones
 first_refusal-cons : (r : Option BoardRefusal) (later : List (Option BoardRefusal)) (m : Option BoardRefusal) → or_else (first_refusal (r ∷ later)) m ≡ or_else r (or_else (first_refusal later) m)

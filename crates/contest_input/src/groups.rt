@@ -1,6 +1,7 @@
 //! The group lines of a board text.
-ghost use Rattle.std.specs.Prelude.{◌≡◌, ◌+◌, ◌≤◌, ◌++◌, [], length, map, take, drop, OnOk, IfErr, None};
+ghost use Rattle.std.specs.Prelude.{ℕ, List, ◌≡◌, ◌+◌, ◌≤◌, ◌++◌, [], length, map, take, drop, OnOk, IfErr, None};
 ghost use Rattle.contest_input.specs.Faults.{group_fault};
+ghost use Rattle.contest_input.specs.Lists.{list_fault};
 ghost use Rattle.contest_input.specs.BoardText.{listed_row};
 ghost use Rattle.contest_input.specs.Sections.{section_refusal, IsFor};
 
@@ -9,6 +10,17 @@ use crate::kind::BoardKind;
 use crate::lists::{Listing, read_list};
 use crate::source::Source;
 use tdm_problem::{MAX_GROUPS, MAX_LISTED_NETS, ProblemDraft};
+
+/// What group lines list on a board with so many nets.
+pub(crate) fn group_listing(nets: u32) -> Listing
+    ensures { (listed : ℕ) (numbers : List ℕ) → list_fault result listed numbers ≡ group_fault nets listed numbers }
+{
+    Listing {
+        unknown: BoardKind::UnknownNet,
+        below: nets,
+        most: MAX_LISTED_NETS,
+    }
+}
 
 /// Reads so many group lines, and adds their groups to a draft that has all nets and no group. `row` is room
 /// for one line.

@@ -1,5 +1,6 @@
 //! The header of a board text.
-ghost use Rattle.std.specs.Prelude.{◌≡◌, IfOk, OnOk, IfErr, None};
+ghost use Rattle.tdm_problem.specs.Limits.{most_fpgas, most_wires, most_nets, most_groups};
+ghost use Rattle.std.specs.Prelude.{◌≤◌, ◌≡◌, IfOk, OnOk, IfErr, None};
 ghost use Rattle.contest_input.specs.declared.kind.BoardKind.TheVariants.{NoHeader};
 ghost use Rattle.contest_input.specs.Faults.{sizes_of, header_fault};
 ghost use Rattle.contest_input.specs.Sections.{next_refusal, next_numbers, after_line, IsFor};
@@ -19,7 +20,7 @@ pub(crate) struct Sizes {
 }
 
 /// What is wrong with the numbers of a header.
-fn header_fault(numbers: &[u64]) -> Option<BoardKind>
+pub(crate) fn header_fault(numbers: &[u64]) -> Option<BoardKind>
     ensures { result ≡ header_fault numbers.now }
 {
     if numbers.len() != 4 {
@@ -33,6 +34,23 @@ fn header_fault(numbers: &[u64]) -> Option<BoardKind>
         return Some(BoardKind::CountLimit);
     }
     None
+}
+
+/// The sizes that a header without fault asks for.
+pub(crate) fn sizes_of(numbers: &[u64]) -> Sizes
+    requires { header_fault numbers.now ≡ None }
+    ensures sizes { result ≡ sizes_of numbers.now }
+    ensures fpgas { result.fpgas ≤ most_fpgas }
+    ensures wires { result.wires ≤ most_wires }
+    ensures nets { result.nets ≤ most_nets }
+    ensures groups { result.groups ≤ most_groups }
+{
+    Sizes {
+        fpgas: numbers[0] as u32,
+        wires: numbers[1] as u32,
+        nets: numbers[2] as u32,
+        groups: numbers[3] as u32,
+    }
 }
 
 /// Reads the header.

@@ -11,6 +11,8 @@ mod law;
 mod lists;
 mod nets;
 mod read;
+mod reader;
+mod roles;
 mod source;
 #[cfg(test)]
 mod tests;
@@ -20,6 +22,7 @@ pub use fault::{BoardFault, BoardRefusal};
 pub use kind::BoardKind;
 pub use law::{a_cut_text_says_the_same, a_text_describes_a_board};
 pub use read::read_board;
+pub use reader::BoardReader;
 
 /// The most bytes of a board text.
 pub const MAX_BOARD_BYTES: usize = 268_435_456;

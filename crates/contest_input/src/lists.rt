@@ -36,7 +36,7 @@ fn has_unknown(below: u32, numbers: &[u64]) -> bool
 }
 
 /// What is wrong with the numbers of a line, where this and all earlier lines of the section have so many.
-fn list_fault(listing: Listing, listed: u64, numbers: &[u64]) -> Option<BoardKind>
+pub(crate) fn list_fault(listing: Listing, listed: u64, numbers: &[u64]) -> Option<BoardKind>
     ensures value { result ≡ list_fault listing listed numbers.now }
     ensures known { IfNone result (All (λ n. n < listing.below) numbers.now) }
     ensures within { IfNone result (listed ≤ listing.most) }
@@ -51,7 +51,7 @@ fn list_fault(listing: Listing, listed: u64, numbers: &[u64]) -> Option<BoardKin
 }
 
 /// Writes the numbers into `row` in place of what stood there.
-fn narrow(numbers: &[u64], row: &mut Vec<u32>) -> Result<(), AllocError>
+pub(crate) fn narrow(numbers: &[u64], row: &mut Vec<u32>) -> Result<(), AllocError>
     requires { All (λ n. n < 2 ^ 32) numbers.now }
     ensures { OnOk result (row.new.items ≡ numbers.now) }
 {

@@ -1,6 +1,7 @@
 //! The net lines of a board text.
-ghost use Rattle.std.specs.Prelude.{◌≡◌, ◌+◌, ◌≤◌, ◌++◌, [], length, map, take, drop, OnOk, IfErr, None};
+ghost use Rattle.std.specs.Prelude.{ℕ, List, ◌≡◌, ◌+◌, ◌≤◌, ◌++◌, [], length, map, take, drop, OnOk, IfErr, None};
 ghost use Rattle.contest_input.specs.Faults.{net_fault};
+ghost use Rattle.contest_input.specs.Lists.{list_fault};
 ghost use Rattle.contest_input.specs.BoardText.{listed_row};
 ghost use Rattle.contest_input.specs.Sections.{section_refusal, IsFor};
 
@@ -9,6 +10,17 @@ use crate::kind::BoardKind;
 use crate::lists::{Listing, read_list};
 use crate::source::Source;
 use tdm_problem::{MAX_LISTED_FPGAS, MAX_NETS, ProblemDraft};
+
+/// What net lines list on a board with so many FPGAs.
+pub(crate) fn net_listing(fpgas: u32) -> Listing
+    ensures { (listed : ℕ) (numbers : List ℕ) → list_fault result listed numbers ≡ net_fault fpgas listed numbers }
+{
+    Listing {
+        unknown: BoardKind::UnknownFpga,
+        below: fpgas,
+        most: MAX_LISTED_FPGAS,
+    }
+}
 
 /// Reads so many net lines, and adds their nets to a draft that has none. `row` is room for one line.
 pub(crate) fn read_nets(

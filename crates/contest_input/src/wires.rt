@@ -13,7 +13,7 @@ use crate::source::Source;
 use tdm_problem::{ProblemDraft, Wire};
 
 /// What is wrong with the numbers of a wire line of a board with so many FPGAs.
-fn wire_fault(fpgas: u32, numbers: &[u64]) -> Option<BoardKind>
+pub(crate) fn wire_fault(fpgas: u32, numbers: &[u64]) -> Option<BoardKind>
     ensures { result ≡ wire_fault fpgas numbers.now }
 {
     if numbers.len() != 2 {
@@ -26,6 +26,18 @@ fn wire_fault(fpgas: u32, numbers: &[u64]) -> Option<BoardKind>
         return Some(BoardKind::SelfLoop);
     }
     None
+}
+
+/// The wire of a line without fault.
+pub(crate) fn wire_of(fpgas: u32, numbers: &[u64]) -> Wire
+    requires { wire_fault fpgas numbers.now ≡ None }
+    ensures wire { result ≡ wire_of numbers.now }
+    ensures joins { IsWireOf fpgas result }
+{
+    Wire {
+        a: numbers[0] as u32,
+        b: numbers[1] as u32,
+    }
 }
 
 /// Reads one wire line.
