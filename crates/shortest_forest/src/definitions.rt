@@ -1,6 +1,7 @@
-//! Parent wires and baseline trees, computed on small boards.
-ghost use Rattle.std.specs.Prelude.{ℕ, List, [], ◌∷◌, Some};
-ghost use Rattle.tdm_problem.specs.Samples.{doubled, split, star};
+//! Parent wires, baseline trees and walks over arcs, computed on small boards.
+ghost use Rattle.std.specs.Prelude.{ℕ, List, [], ◌∷◌, Some, nat_lt, if◌then◌else◌};
+ghost use Rattle.tdm_problem.specs.Samples.{doubled, ring, split, star};
+ghost use Rattle.shortest_forest.specs.Arcs.{IsArcWalk};
 ghost use Rattle.shortest_forest.specs.Baseline.{IsBaseTree, IsParent};
 ghost use Rattle.shortest_forest.specs.Reach.{AreHops, HasNoWalk};
 
@@ -30,4 +31,11 @@ fn a_baseline_tree_is_the_union_of_parent_chains()
     ensures star { IsBaseTree star 1 (1 ∷ 2 ∷ 3 ∷ []) (0 ∷ 1 ∷ 2 ∷ []) }
     ensures spare { ¬ IsBaseTree star 1 (1 ∷ 2 ∷ []) (0 ∷ 1 ∷ 2 ∷ []) }
     ensures split { (wires : List ℕ) → ¬ IsBaseTree split 0 (0 ∷ 2 ∷ []) wires }
+{}
+
+/// Where arcs to FPGAs of greater numbers are 1 long and those back 5, the way round the ring by its short
+/// wires is 2 long in one direction and 10 in the other.
+fn arcs_are_as_long_as_their_direction_says()
+    ensures up { IsArcWalk ring (λ _ from to. if nat_lt from to then 1 else 5) 0 (0 ∷ 1 ∷ []) 2 2 }
+    ensures down { IsArcWalk ring (λ _ from to. if nat_lt from to then 1 else 5) 2 (1 ∷ 0 ∷ []) 0 10 }
 {}

@@ -39,7 +39,8 @@ pub fn forest<Q: Lengths>(
     })
 }
 
-/// Begins a search from FPGA `root` and settles all FPGAs that wires lead to. No FPGA is marked as a goal.
+/// Begins a search from FPGA `root` and settles all FPGAs that wires lead to. No FPGA is marked as a goal,
+/// before or after, so the same workspace serves the next root.
 pub fn settle_all<Q: Lengths>(
     search: &mut Search,
     graph: &BoardGraph,
@@ -50,7 +51,8 @@ pub fn settle_all<Q: Lengths>(
     requires lengths { length graph.now.wires ≤ Q.covered lengths.now }
     requires count { length search.old.labels ≡ graph.now.fpgas }
     requires goals { search.old.goals ≡ replicate graph.now.fpgas false }
-    ensures { OnOk result (IsAllSettled (board_of graph.now) (Q.length lengths.now) root search.new) }
+    ensures settled { OnOk result (IsAllSettled (board_of graph.now) (Q.length lengths.now) root search.new) }
+    ensures goals { search.new.goals ≡ search.old.goals }
 {
     let fpgas = graph.fpgas();
     search.begin();

@@ -8,6 +8,8 @@ mod hop_forest;
 mod label;
 mod labels;
 mod least;
+#[cfg(test)]
+mod length_tests;
 mod lengths;
 mod nearest;
 mod search;

@@ -15,8 +15,8 @@ nearest_goal-requires-clause-under_way g c =
     let marks = ap length c.begin.ensures.goals ∙ ap length c.requires.goals ∙ length-replicate c.args.graph.now.fpgas false in
     c.in_ok-add_source.ensures.under_way board arcs (λ _. 0) (2 ^ 64 - 2 ^ 51) (c.begin.ensures.begun board arcs (λ _. 0) (2 ^ 64 - 2 ^ 51) count marks)
 
-pub returns : goal.returns
-returns g c =
+pub returns-clause-settled : goal.returns-clause-settled
+returns-clause-settled g c =
     let graph = c.args.graph.now in
     let board = board_of graph in
     let l = g.Q.Lengths.length c.args.lengths.now in

@@ -1,0 +1,98 @@
+ghost use Rattle.std.specs.Prelude.{◌^◌, min, slice_index};
+ghost use Rattle.std.proofs.Common.{rules};
+
+use crate::{Lengths, forest};
+use board_graph::BoardGraph;
+use tdm_problem::{ProblemDraft, Wire};
+
+/// Three lengths, the greatest length in place of a greater one.
+#[derive(Drop)]
+struct Three([u64; 3]);
+
+impl Lengths for Three {
+    ghost covered = { λ _. 3 };
+
+    ghost length = { λ s e. min (slice_index s.0 e) (2 ^ 51) };
+
+    ghost limit = { Prim.search rules };
+
+    fn len_of(&self, wire: u32) -> u64 {
+        self.0[wire as usize].min(1 << 51)
+    }
+}
+
+/// All wires are as long as a wire may be.
+#[derive(Drop)]
+struct Longest;
+
+impl Lengths for Longest {
+    ghost covered = { λ _. 65536 };
+
+    ghost length = { λ _ _. 2 ^ 51 };
+
+    ghost limit = { Prim.search rules };
+
+    fn len_of(&self, _wire: u32) -> u64 {
+        1 << 51
+    }
+}
+
+#[test]
+fn two_short_wires_beat_a_long_one(rt: HostRuntime) {
+    let mut draft = ProblemDraft::new(rt.alloc(), 3);
+    assert!(rt; draft.push_wire(Wire { a: 0, b: 1 }).is_ok());
+    assert!(rt; draft.push_wire(Wire { a: 1, b: 2 }).is_ok());
+    assert!(rt; draft.push_wire(Wire { a: 0, b: 2 }).is_ok());
+    let graph = BoardGraph::of(rt.alloc(), &draft.into_problem()).expect(&rt, "memory");
+    assert_eq!(rt; graph.fpgas(), 3);
+    assert_eq!(rt; graph.wires(), 3);
+    let least = forest(rt.alloc(), &graph, 0, &Three([1, 1, 5])).expect(&rt, "memory");
+    assert!(rt; least.dist(0) == Some(0) && least.parent_wire(0).is_none());
+    assert!(rt; least.dist(1) == Some(1) && least.parent_wire(1) == Some(0));
+    assert!(rt; least.dist(2) == Some(2) && least.parent_wire(2) == Some(1));
+    let dearer_first = forest(rt.alloc(), &graph, 0, &Three([4, 1, 3])).expect(&rt, "memory");
+    assert!(rt; dearer_first.dist(2) == Some(3) && dearer_first.parent_wire(2) == Some(2));
+    assert!(rt; dearer_first.dist(1) == Some(4));
+}
+
+#[test]
+fn lengths_of_0_lead_to_the_root(rt: HostRuntime) {
+    let mut draft = ProblemDraft::new(rt.alloc(), 4);
+    assert!(rt; draft.push_wire(Wire { a: 0, b: 1 }).is_ok());
+    assert!(rt; draft.push_wire(Wire { a: 0, b: 2 }).is_ok());
+    assert!(rt; draft.push_wire(Wire { a: 0, b: 3 }).is_ok());
+    let graph = BoardGraph::of(rt.alloc(), &draft.into_problem()).expect(&rt, "memory");
+    assert_eq!(rt; graph.fpgas(), 4);
+    assert_eq!(rt; graph.wires(), 3);
+    let least = forest(rt.alloc(), &graph, 1, &Three([0, 0, 0])).expect(&rt, "memory");
+    assert!(rt; least.dist(0) == Some(0) && least.parent_wire(0) == Some(0));
+    assert!(rt; least.dist(1) == Some(0) && least.parent_wire(1).is_none());
+    assert!(rt; least.dist(2) == Some(0) && least.parent_wire(2) == Some(1));
+    assert!(rt; least.dist(3) == Some(0) && least.parent_wire(3) == Some(2));
+}
+
+#[test]
+fn sums_of_the_greatest_lengths_are_exact(rt: HostRuntime) {
+    let mut draft = ProblemDraft::new(rt.alloc(), 5);
+    assert!(rt; draft.push_wire(Wire { a: 0, b: 1 }).is_ok());
+    assert!(rt; draft.push_wire(Wire { a: 1, b: 2 }).is_ok());
+    assert!(rt; draft.push_wire(Wire { a: 2, b: 3 }).is_ok());
+    assert!(rt; draft.push_wire(Wire { a: 3, b: 4 }).is_ok());
+    let graph = BoardGraph::of(rt.alloc(), &draft.into_problem()).expect(&rt, "memory");
+    assert_eq!(rt; graph.fpgas(), 5);
+    let least = forest(rt.alloc(), &graph, 0, &Longest).expect(&rt, "memory");
+    assert!(rt; least.dist(1) == Some(1 << 51) && least.parent_wire(1) == Some(0));
+    assert!(rt; least.dist(4) == Some(4 << 51) && least.parent_wire(4) == Some(3));
+}
+
+#[test]
+fn two_fpgas_apart_have_no_distance(rt: HostRuntime) {
+    let mut draft = ProblemDraft::new(rt.alloc(), 3);
+    assert!(rt; draft.push_wire(Wire { a: 0, b: 1 }).is_ok());
+    let graph = BoardGraph::of(rt.alloc(), &draft.into_problem()).expect(&rt, "memory");
+    assert_eq!(rt; graph.fpgas(), 3);
+    assert_eq!(rt; graph.wires(), 1);
+    let least = forest(rt.alloc(), &graph, 0, &Three([7, 0, 0])).expect(&rt, "memory");
+    assert!(rt; least.dist(1) == Some(7));
+    assert!(rt; least.dist(2).is_none() && least.parent_wire(2).is_none());
+}
