@@ -1,0 +1,11 @@
+pub mod Reports
+pub mod Slots
+pub mod Outcome
+pub mod Inputs
+pub mod Faulty
+pub mod Filled
+pub mod Decision
+pub mod Outputs
+pub mod Concluded
+pub mod Ends
+pub mod Toy

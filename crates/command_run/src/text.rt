@@ -1,0 +1,91 @@
+//! Texts that are read, and texts that are written.
+ghost use Rattle.std.specs.Prelude.{◌≡◌, ◌≤◌, ◌+◌, ◌^◌, ◌++◌, [], List, ℕ, Result, length, take, IfOk, IfErr, OnOk, OnErr, IsTrue, IsErrOf};
+ghost use Rattle.tdm_desk.specs.Seen.{output_is_open, written, PrefixWritten};
+ghost use Rattle.tdm_desk.specs.Counts.{CountsFaults, WritingFailed};
+ghost use Rattle.command_run.specs.Inputs.{TextKind};
+ghost use Rattle.command_run.specs.Faulty.{IsFaultOf};
+
+use crate::status::RunStatus;
+use std::alloc::{AllocError, Global};
+use tdm_desk::{Desk, DeskFault, OutSlot};
+
+/// Why a text gave nothing.
+#[derive(Debug, Drop)]
+pub enum TextFault<R> {
+    /// The text is refused.
+    Refused(R),
+    /// Memory was wanting.
+    NoMemory,
+}
+
+/// A reader of texts of one kind, which is fed a text piece by piece.
+pub trait TextReader: Drop {
+    /// The statuses of the commands that read such texts.
+    type Status: RunStatus;
+
+    /// What a text says.
+    type Value;
+
+    /// Why a text is refused.
+    type Refusal: Drop;
+
+    // the kind of text
+    ghost kind: { Self → TextKind Self.Status Self.Value Self.Refusal };
+
+    // the most bytes that a text may have
+    ghost limit: { Self → ℕ };
+
+    // what else is known of a value that a text says
+    ghost known: { Self → Self.Value → Type 0 };
+
+    // what the reader was fed so far
+    ghost fed: { Self → List ℕ };
+
+    /// The most bytes that a text may have. One that is longer is refused, whatever is behind one byte more.
+    fn limit(&self) -> u64
+        ensures same { result ≡ limit self.now }
+        ensures small { result ≤ 2 ^ 30 };
+
+    /// A text that is cut one byte past the limit says what the whole text says. Nothing is done.
+    fn cut(&self)
+        ensures { (text : List ℕ) → (kind self.now).says (take (limit self.now + 1) text)
+            ≡ (kind self.now).says text };
+
+    /// Takes the next bytes of the text. After want of memory it may not be fed again.
+    fn feed(&mut self, piece: &[u8]) -> Result<(), AllocError>
+        requires { length (fed self.old) + length piece.now ≤ limit self.old + 1 }
+        ensures fed { OnOk result (fed self.new ≡ fed self.old ++ piece.now) }
+        ensures kind { kind self.new ≡ kind self.old }
+        ensures known { (value : Self.Value) → known self.new value → known self.old value }
+        ensures limit { limit self.new ≡ limit self.old };
+
+    /// What the text that it was fed says.
+    fn end(self) -> Result<Self::Value, TextFault<Self::Refusal>>
+        requires { length (fed self) ≤ limit self + 1 }
+        ensures ok { IfOk result (λ value. (kind self).says (fed self) ≡ Ok value) }
+        ensures known { IfOk result (known self) }
+        ensures fault { IfErr result (IsFaultOf ((kind self).says (fed self))) };
+
+    /// The status of a run whose text is refused.
+    fn status() -> Self::Status
+        ensures { (reader : Self) → result ≡ (kind reader).status };
+
+    /// What is said of a text that is refused.
+    fn report(alloc: Global, refusal: Self::Refusal) -> Result<Vec<u8>, AllocError>
+        ensures { IfOk result (λ text. (reader : Self) → text.items ≡ (kind reader).report refusal) };
+}
+
+/// A text that can be written to an output.
+pub trait OutputText: Drop {
+    // its bytes
+    ghost text: { Self → List ℕ };
+
+    /// Adds the text to the file of an open output. After a fault a first part of it was added, and the slot stays open.
+    fn write<D: Desk>(&self, desk: &mut D, slot: OutSlot) -> Result<(), DeskFault>
+        requires { IsTrue (output_is_open slot (D.seen desk.old)) }
+        ensures ok { OnOk result (D.seen desk.new ≡ written slot (text self.now) (D.seen desk.old)) }
+        ensures err { OnErr result (PrefixWritten slot (text self.now) (D.seen desk.old) (D.seen desk.new)) }
+        ensures failed { IsErrOf result DeskFault.Failed →
+            WritingFailed D.counts D.steady desk.old desk.new }
+        ensures counted { CountsFaults D.counts D.steady desk.old desk.new };
+}
