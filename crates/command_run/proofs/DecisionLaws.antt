@@ -15,7 +15,7 @@ use Rattle.command_run.specs.declared.outcome.Prepared.{Prepared}
 use Rattle.command_run.specs.Slots.{place, KeepsInput, KeepsInputsBut, WasRead}
 use Rattle.command_run.specs.Outcome.{Outcome, outcome_of}
 use Rattle.command_run.specs.Inputs.{Input, Holds, HoldEach, TextKind, FromText, FromInput, ByInput, ByNone}
-use Rattle.command_run.specs.Decision.{OnlyReads, AreRead, IsCalledFor, CouldNotRead, DecisionShows, Decides, Had, DecidesItself, EarlyShows, DecidesEarly}
+use Rattle.command_run.specs.Decision.{OnlyReads, AreRead, DecisionShows, Decides, Had, EarlyShows, DecidesEarly}
 
 -- places are counted from 1
 pub positive : (slot : InSlot) → 0 < place slot

@@ -1,5 +1,5 @@
 -- What the text of an input says, once a reader was fed it.
-use Rattle.std.proofs.Common.{◌≡◌, ℕ, ◌+◌, ◌-◌, List, [], refl, sym, ap, subst, ◌∙◌, take, map, Global}
+use Rattle.std.proofs.Common.{◌≡◌, ℕ, ◌+◌, ◌-◌, List, sym, ap, subst, ◌∙◌, take, map, Global}
 use Rattle.std.specs.Prelude.{Some, Vec, Result, Ok, Err, IfOk, IfErr}
 use Rattle.std.specs.declared.alloc.AllocError.{AllocError}
 use Rattle.tdm_desk.specs.declared.slots.InSlot.{InSlot}
@@ -10,9 +10,9 @@ use Rattle.command_run.specs.declared.outcome.Decision.{Decision}
 use Rattle.command_run.specs.declared.outcome.Decision.TheVariants as decision
 use Rattle.command_run.specs.Slots.{place}
 use Rattle.command_run.specs.Outcome.{Outcome, outcome_of}
-use Rattle.command_run.specs.Inputs.{TextKind, FromText, refused}
+use Rattle.command_run.specs.Inputs.{TextKind, FromText}
 use Rattle.command_run.specs.Filled.{FilledFrom}
-use Rattle.command_run.specs.Decision.{OnlyReads, Had, DecidesItself, EarlyShows, DecidesEarly, IsSaid}
+use Rattle.command_run.specs.Decision.{OnlyReads, Had, EarlyShows, DecidesEarly, IsSaid}
 
 same-outcome : {S : Type 0} (opened : ℕ) (s t : S) (r q : Bytes) (x y : List Bytes) → s ≡ t → r ≡ q → x ≡ y → ◌≡◌ {A = Outcome S} (record { opened = opened; status = s; report = r; texts = x }) (record { opened = opened; status = t; report = q; texts = y })
 same-outcome opened s t r q x y e f h =

@@ -1,24 +1,22 @@
 -- How a run ends, by what was decided and how it was put out.
-use Rattle.std.proofs.Common.{◌≡◌, ◌⊎◌, ℕ, ◌+◌, ◌<◌, ◌≤◌, List, [], ◌∷◌, length, refl, sym, ap, subst, ◌∙◌, inl, inr, arith, map}
+use Rattle.std.proofs.Common.{◌≡◌, ◌⊎◌, ℕ, ◌+◌, ◌<◌, ◌≤◌, List, [], ◌∷◌, length, refl, ap, ◌∙◌, inl, inr, arith}
 use Rattle.std.proofs.lemmas.List.{length-map}
-use Rattle.std.specs.Prelude.{Option, Some, None, ◌≢◌}
-use Rattle.std.specs.FinMap.{get}
+use Rattle.std.specs.Prelude.{Option}
 use Rattle.tdm_desk.specs.declared.slots.InSlot.{InSlot}
-use Rattle.tdm_desk.specs.declared.slots.OutSlot.{OutSlot}
-use Rattle.tdm_desk.specs.Files.{Bytes, Name, Files}
+use Rattle.tdm_desk.specs.Files.{Bytes, Name}
 use Rattle.tdm_desk.specs.Seen.{Seen, files_of, said_of, rest_of, input_is_open, output_is_open}
-use Rattle.tdm_desk.specs.Counts.{Counts, CountsFaults, WritingFailed, ReadingFailed}
-use Rattle.tdm_desk.proofs.CountLaws.{counts_both, reading_failed_before, writing_failed_later}
+use Rattle.tdm_desk.specs.Counts.{Counts, CountsFaults}
+use Rattle.tdm_desk.proofs.CountLaws.{reading_failed_before, writing_failed_later}
 use Rattle.command_run.specs.declared.outcome.Decision.{Decision}
 use Rattle.command_run.specs.declared.outcome.Decision.TheVariants as decision
-use Rattle.command_run.specs.Slots.{place, out_place, KeepsInputs, KeepsInputsBut, KeepsOutputs, KeepsOutputsBehind}
+use Rattle.command_run.specs.Slots.{place, KeepsInputs, KeepsInputsBut, KeepsOutputsBehind}
 use Rattle.command_run.specs.Reports.{read_fault_report}
 use Rattle.command_run.specs.Outcome.{Outcome, Faults, outcome_of}
-use Rattle.command_run.specs.Inputs.{Input, Holds, HoldEach}
-use Rattle.command_run.specs.Decision.{OnlyReads, AreRead, IsCalledFor, CouldNotRead, DecisionShows, Decides}
-use Rattle.command_run.specs.Outputs.{Leaves, IsFirstPart, IsBegun, IsStop, IsPutOut, IsCutOff, PutsOut}
+use Rattle.command_run.specs.Inputs.{Input}
+use Rattle.command_run.specs.Decision.{OnlyReads, AreRead, IsCalledFor, CouldNotRead, Decides}
+use Rattle.command_run.specs.Outputs.{IsFirstPart, IsBegun, IsStop, IsPutOut, IsCutOff, PutsOut}
 use Rattle.command_run.specs.Concluded.{HasRoom, Concludes}
-use Rattle.command_run.specs.Ends.{Came, Missed, EndsWhole, EndsUnread, WasBegun, EndsStopped, RunEnds}
+use Rattle.command_run.specs.Ends.{Came, Missed, WasBegun, EndsStopped, RunEnds}
 use Rattle.command_run.proofs.DecisionLaws.{kept-twice, still-read}
 use Rattle.command_run.proofs.OutputLaws.{nothing-then, leaves-nothing, out-positive}
 

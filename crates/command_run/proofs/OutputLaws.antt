@@ -4,12 +4,11 @@ use Rattle.std.specs.Prelude.{Option, Some, None, option_map, IsTrue, IsFalse, B
 use Rattle.std.proofs.lemmas.List.{append-nil, take_all, length-map}
 use Rattle.tdm_desk.specs.declared.slots.OutSlot.{OutSlot}
 use Rattle.tdm_desk.specs.declared.slots.OutSlot.TheVariants.{Out0, Out1, Out2}
-use Rattle.tdm_desk.specs.declared.slots.InSlot.{InSlot}
 use Rattle.tdm_desk.specs.Slots.{output_place}
-use Rattle.tdm_desk.specs.Files.{Bytes, Name, Files, with_file}
+use Rattle.tdm_desk.specs.Files.{Bytes, Name, with_file}
 use Rattle.tdm_desk.specs.Seen.{Seen, created, written, output_closed, said, files_of, said_of, rest_of, input_is_open, output_is_open, PrefixWritten, PrefixSaid}
-use Rattle.tdm_desk.proofs.SeenLaws.{files-output_closed, files-written-created, files-said, said-created, said-written, said-output_closed, said-said, rest-created, rest-written, rest-output_closed, rest-said, input_is_open-created, input_is_open-written, input_is_open-output_closed, input_is_open-said, output_is_open-created, output_is_open-written, output_is_open-output_closed, output_is_open-created_other, output_is_open-closed_other, output_is_open-said}
-use Rattle.command_run.specs.Slots.{out_place, KeepsInput, KeepsInputs, KeepsOutputs, OnlyWrites, AreClosedFrom, AreClosed}
+use Rattle.tdm_desk.proofs.SeenLaws.{files-output_closed, files-written-created, files-said, said-created, said-written, said-output_closed, said-said, rest-created, rest-written, rest-output_closed, rest-said, input_is_open-created, input_is_open-written, input_is_open-output_closed, input_is_open-said, output_is_open-created, output_is_open-written, output_is_open-created_other, output_is_open-closed_other, output_is_open-said}
+use Rattle.command_run.specs.Slots.{out_place, KeepsInputs, OnlyWrites, AreClosedFrom}
 use Rattle.tdm_desk.specs.Counts.{Counts, CountsFaults}
 use Rattle.tdm_desk.proofs.CountLaws.{counts_both, counts_nothing}
 use Rattle.command_run.specs.Outcome.{Faults}

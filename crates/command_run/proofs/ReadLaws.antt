@@ -8,10 +8,9 @@ use Rattle.tdm_desk.specs.declared.slots.InSlot.{InSlot}
 use Rattle.tdm_desk.specs.declared.slots.InSlot.TheVariants.{In0, In1, In2}
 use Rattle.tdm_desk.specs.Slots.{input_place}
 use Rattle.tdm_desk.specs.Files.{Bytes, Name, Files, bytes_under}
-use Rattle.tdm_desk.specs.Seen.{Seen, opened, input_closed, taken, files_of, said_of, rest_of, input_is_open, output_is_open, SomeTaken}
+use Rattle.tdm_desk.specs.Seen.{Seen, opened, input_closed, taken, files_of, said_of, rest_of, input_is_open, output_is_open}
 use Rattle.tdm_desk.proofs.SeenLaws.{files-opened, files-input_closed, files-taken, said-opened, said-input_closed, said-taken, rest-opened, rest-taken, rest-opened_other, rest-input_closed_other, rest-taken_other, input_is_open-opened, input_is_open-taken, input_is_open-opened_other, input_is_open-input_closed_other, output_is_open-opened, output_is_open-input_closed, output_is_open-taken}
-use Rattle.command_run.specs.Slots.{place, WasRead, KeepsInput}
-use Rattle.command_run.specs.Inputs.{Holds}
+use Rattle.command_run.specs.Slots.{place, WasRead}
 use Rattle.command_run.specs.Filled.{FilledFrom}
 use Rattle.command_run.specs.Decision.{OnlyReads}
 

@@ -8,7 +8,7 @@ use Rattle.command_run.specs.declared.outcome.Decision.TheVariants.{Prepared, Un
 use Rattle.command_run.specs.Slots.{place}
 use Rattle.command_run.specs.Reports.{read_fault_report}
 use Rattle.command_run.specs.Outcome.{Faults}
-use Rattle.command_run.specs.Outputs.{PutsOut, IsStop}
+use Rattle.command_run.specs.Outputs.{PutsOut}
 
 -- there are no more texts than outputs, and no more than three
 abbrev pub HasRoom : {S T : Type 0} → List Name → Decision S T → Type 0

@@ -1,10 +1,8 @@
 -- What it shows that a reader was fed an input, or was not.
 use Rattle.std.specs.Prelude.{◌≡◌, ℕ, ◌+◌, take, Some, None}
-use Rattle.std.specs.Option.{ForSome}
-use Rattle.std.specs.FinMap.{get}
 use Rattle.tdm_desk.specs.declared.slots.InSlot.{InSlot}
 use Rattle.tdm_desk.specs.Files.{Bytes, Name}
-use Rattle.tdm_desk.specs.Seen.{Seen, files_of}
+use Rattle.tdm_desk.specs.Seen.{Seen}
 use Rattle.command_run.specs.Slots.{WasRead}
 use Rattle.command_run.specs.Inputs.{Holds}
 use Rattle.command_run.specs.declared.reading.Unfilled.{Unfilled}

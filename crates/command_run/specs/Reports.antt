@@ -1,5 +1,5 @@
 -- The lines that a run of any command may say.
-use Rattle.std.specs.Prelude.{ℕ, List, [], ◌∷◌, ◌++◌, codes}
+use Rattle.std.specs.Prelude.{ℕ, [], ◌∷◌, ◌++◌, codes}
 use Rattle.tdm_lines.specs.Digits.{digits}
 use Rattle.tdm_desk.specs.Files.{Bytes}
 

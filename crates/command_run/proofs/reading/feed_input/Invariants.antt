@@ -1,4 +1,4 @@
-use Rattle.std.proofs.Common.{◌≡◌, ◌≤◌, ◌+◌, ◌-◌, vec_len, length}
+use Rattle.std.proofs.Common.{◌≡◌, ◌≤◌, ◌-◌, vec_len, length}
 use Rattle.tdm_desk.specs.Counts.{CountsFaults}
 use Rattle.tdm_desk.proofs.LoadLaws.{Loads}
 use Rattle.command_run.proofs.reading.feed_input.Given as goal

@@ -1,4 +1,4 @@
-use Rattle.std.proofs.Common.{◌+◌, arith}
+use Rattle.std.proofs.Common.{arith}
 use Rattle.command_run.proofs.ReadLaws.{opened-is-open, when-true, when-false, only-taken, only-closed, filled}
 use Rattle.command_run.proofs.reading.fill.Goals as goal
 

@@ -1,5 +1,3 @@
-use Rattle.std.proofs.Common.{refl}
-use Rattle.std.specs.Prelude.{Result, Ok, Err, IfOk}
 use Rattle.command_run.proofs.ResultLaws.{map-ok}
 use Rattle.command_run.proofs.EarlyLaws.{had, refuses}
 use Rattle.command_run.proofs.reading.read_input.Goals as goal

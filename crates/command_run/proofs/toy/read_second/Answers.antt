@@ -1,4 +1,3 @@
-use Rattle.std.proofs.Common.{arith}
 use Rattle.command_run.proofs.DecisionLaws.{decides-early, decides-then, decides-last}
 use Rattle.command_run.proofs.toy.read_second.Goals as goal
 

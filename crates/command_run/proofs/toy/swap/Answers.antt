@@ -1,10 +1,9 @@
-use Rattle.std.proofs.Common.{◌≡◌, ℕ, ◌≤◌, List, arith, length, string_bytes}
+use Rattle.std.proofs.Common.{◌≡◌, List, arith, string_bytes}
 use Rattle.std.specs.Prelude.{Option}
 use Rattle.std.proofs.lemmas.List.{length-map}
 use Rattle.tdm_desk.specs.declared.slots.InSlot.TheVariants.{In0, In1}
 use Rattle.tdm_desk.specs.Files.{Bytes}
 use Rattle.command_run.specs.Inputs.{ByNone}
-use Rattle.command_run.specs.declared.toy.Mood.{Mood}
 use Rattle.command_run.specs.declared.toy.Mood.TheVariants.{Fine, Refused, NoInput}
 use Rattle.command_run.specs.Toy.{letters, swapped, SwapsWith, Swaps}
 use Rattle.command_run.proofs.EndsLaws.{run-ends}
