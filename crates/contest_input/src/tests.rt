@@ -1,5 +1,5 @@
 //! Board texts that are read, and board texts that are refused.
-use crate::{BoardFault, BoardKind, BoardRefusal, read_board};
+use crate::{BoardFault, BoardKind, BoardReader, BoardRefusal, read_board};
 use std::alloc::Global;
 use std::process::Abort;
 use std::test::Fail;
@@ -127,4 +127,51 @@ fn the_length_of_a_text_is_limited(rt: HostRuntime) -> Result<(), Fail> {
         assert!(rt; refusal(&rt, rt.alloc(), &text[..length]) == Some(wanted));
     }
     Ok(())
+}
+
+/// Reads a short text that is fed in pieces of this length, with an empty piece before each.
+fn read_in_pieces(
+    rt: &impl Abort,
+    alloc: Global,
+    text: &[u8],
+    length: usize,
+) -> Result<Problem, BoardFault> {
+    let mut reader = BoardReader::new(alloc);
+    assert!(rt; length > 0);
+    for piece in text.chunks(length) {
+        assert!(rt; reader.fed() < 100 && piece.len() < 100);
+        reader.feed(&[])?;
+        reader.feed(piece)?;
+    }
+    assert!(rt; reader.fed() == text.len() as u64);
+    reader.end()
+}
+
+#[test]
+fn cuts_of_a_text_do_not_matter(rt: HostRuntime) -> Result<(), Fail> {
+    for length in [1usize, 2, 7, 18] {
+        assert_pair(&rt, &read_in_pieces(&rt, rt.alloc(), PAIR, length)?);
+    }
+    Ok(())
+}
+
+#[test]
+fn the_first_fault_is_told_of_a_text_that_comes_byte_by_byte(rt: HostRuntime) {
+    for (text, kind, line) in [
+        (
+            b"2 1 1 1\n0 1\n0 2\nx\n".as_slice(),
+            BoardKind::UnknownFpga,
+            3,
+        ),
+        (b"2 1 1 1\n0 1\n0 1\n", BoardKind::MissingLine, 4),
+        (b"2 1 1 1\n0 1\n0 1\n0 x", BoardKind::BadNumber, 4),
+        (b"0 0 0 0\n1", BoardKind::ExtraLine, 2),
+    ] {
+        let wanted = BoardRefusal { kind, line };
+        let told = match read_in_pieces(&rt, rt.alloc(), text, 1) {
+            Err(BoardFault::Refused(refusal)) => Some(refusal),
+            _ => None,
+        };
+        assert!(rt; told == Some(wanted), "{} in line {line}", kind.name());
+    }
 }
