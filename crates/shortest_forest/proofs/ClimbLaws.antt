@@ -313,7 +313,7 @@ flips x y = go (cases_eq x y)
     go (inr other) = ne_eqb x y other ∙ sym (ne_eqb y x (λ q. other (sym q)))
 
 -- distinct wires rise after a sort
-sorted_rising : (wires sorted : List ℕ) → AllPairs (λ d e. d ≢ e) wires → IsPermutation wires sorted → IsSorted nat_cmp sorted → IsStrictlyIncreasing sorted
+pub sorted_rising : (wires sorted : List ℕ) → AllPairs (λ d e. d ≢ e) wires → IsPermutation wires sorted → IsSorted nat_cmp sorted → IsStrictlyIncreasing sorted
 sorted_rising wires sorted distinct moved in_order =
     IsStrictlyIncreasing-from_distinct sorted (IsNonDecreasingBy-from_sort (λ x. x) sorted in_order)
     (IsDistinct-IsPermutation eqb flips wires sorted moved (IsDistinct-from_apart eqb wires (λ i j d before below. ne_eqb (get_or wires i d) (get_or wires j d) (distinct i j d before below))))

@@ -79,7 +79,7 @@ fn climb(
 }
 
 /// The end of a wire that is not FPGA `f`.
-pub(crate) fn other_end(wire: Wire, f: u32) -> u32
+pub fn other_end(wire: Wire, f: u32) -> u32
     ensures first { wire.a ≡ f → result ≡ wire.b }
     ensures second { wire.a ≢ f → result ≡ wire.a }
 {

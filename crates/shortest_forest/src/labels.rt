@@ -81,6 +81,7 @@ impl Search {
         requires { f < length self.old.labels }
         ensures labels { OnOk result (self.new.labels ≡ slice_set self.old.labels f (Some (record { distance = 0; wire = None }))) }
         ensures goals { self.new.goals ≡ self.old.goals }
+        ensures count { length self.new.labels ≡ length self.old.labels }
         ensures queue { OnOk result (IsPermutation (record { 0 = (0, f) } ∷ self.old.queue) self.new.queue) }
         ensures under_way { OnOk result (StaysUnderWay self.old self.new) }
     {

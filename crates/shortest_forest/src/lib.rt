@@ -1,6 +1,8 @@
 //! Shortest paths from one FPGA of a board to all others, and the baseline trees of nets.
 #![tactic(auto)]
 
+#[cfg(test)]
+mod arc_tests;
 mod baseline;
 #[cfg(test)]
 mod definitions;
@@ -18,7 +20,7 @@ mod stamped;
 mod tests;
 mod way;
 
-pub use baseline::base_tree;
+pub use baseline::{base_tree, other_end};
 pub use hop_forest::{Forest, hops};
 pub use label::Label;
 pub use labels::Search;

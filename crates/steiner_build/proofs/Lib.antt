@@ -3,3 +3,10 @@ pub mod TreeLaws
 pub mod Trails
 pub mod LengthLaws
 pub mod MinimalLaws
+pub mod WayLaws
+pub mod JoiningLaws
+pub mod TakingLaws
+pub mod MarkLaws
+pub mod StepLaws
+pub mod ComposingLaws
+pub mod BuildLaws

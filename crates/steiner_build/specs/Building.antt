@@ -1,8 +1,13 @@
--- How long a tree may be.
-use Rattle.std.specs.Prelude.{ℕ, ◌≤◌, List, sum_by, Contains}
+-- What builds trees, and how long a tree may be.
+use Rattle.std.specs.Prelude.{◌≢◌, ℕ, ◌+◌, ◌^◌, ◌<◌, ◌≤◌, List, sum_by, Contains}
 use Rattle.tdm_problem.specs.Board.{Board}
 use Rattle.tdm_problem.specs.Walk.{IsWalk, AnyWire, Joins}
 use Rattle.tdm_problem.specs.Distance.{IsDistance, length_of}
+
+-- the number of FPGAs of the graph, and the wires of the tree that was grown last
+pub record Builder : Type 0 where
+  pub fpgas : ℕ
+  pub wires : List ℕ
 
 -- some walk from a to b is no longer than this
 abbrev pub IsReachedWithin : Board → (ℕ → ℕ) → ℕ → ℕ → ℕ → Type 0
@@ -25,3 +30,13 @@ IsWithinDistances board wire_length start fpgas number = (distance : ℕ → ℕ
 abbrev pub IsWithinJoining : Board → (ℕ → ℕ) → List ℕ → ℕ → Type 0
 IsWithinJoining board wire_length fpgas number = (wires : List ℕ) → Joins board (Contains wires) fpgas
     → number ≤ length_of wire_length wires
+
+-- from each FPGA every walk to one of the listed FPGAs other than the start is at least as long as the bound
+abbrev pub IsBelowWays : Board → (ℕ → ℕ) → ℕ → List ℕ → (ℕ → ℕ) → Type 0
+IsBelowWays board wire_length start fpgas bound = (f t : ℕ) (es : List ℕ) → Contains fpgas t → t ≢ start
+    → IsWalk board (AnyWire board) f es t → bound f ≤ length_of wire_length es
+
+-- to some of the FPGAs every walk from the start is so long that with a tree it passes the number
+abbrev pub IsSomeBeyond : Board → (ℕ → ℕ) → ℕ → List ℕ → ℕ → Type 0
+IsSomeBeyond board wire_length start fpgas number = (t : ℕ) × Contains fpgas t
+    × ((es : List ℕ) → IsWalk board (AnyWire board) start es t → number < length_of wire_length es + 2 ^ 63)

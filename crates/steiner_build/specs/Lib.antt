@@ -1,3 +1,4 @@
 pub mod Growth
 pub mod Building
 pub mod Laws
+pub mod Joining

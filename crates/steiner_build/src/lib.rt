@@ -1,6 +1,14 @@
-//! Trees that join terminals of a board: how they grow, and how long they are.
+//! Trees that join terminals, grown from one of them by a least path to the nearest of the others, again and
+//! again; how such trees grow, and how long they are.
 #![tactic(auto)]
 
+mod builder;
+mod fault;
+mod joining;
 mod laws;
+#[cfg(test)]
+mod tests;
 
+pub use builder::{TreeBuilder, build};
+pub use fault::BuildFault;
 pub use laws::{joining_is_as_long_as_walks, tree_grows_by_a_path, walks_are_short};

@@ -1,0 +1,88 @@
+-- The nearest goal with its way back is a step by which the tree grows.
+use Rattle.std.proofs.Common.{◌≡◌, ◌⊎◌, ℕ, ◌+◌, ◌<◌, ◌≤◌, false, List, [], ◌∷◌, Option, Some, None, ◌++◌, ◌-◌, length, take, drop, refl, sym, ap, ◌∙◌, subst, inl, inr, ⊎_elim, arith}
+use Rattle.std.specs.Prelude.{slice_set, slice_index_or, reverse, ◌↔◌}
+use Rattle.std.proofs.lemmas.List.Sums.{sum_by-append, sum_by-cons}
+use Rattle.std.proofs.lemmas.List.{reverse-append, take_rest, drop_at}
+use Rattle.std.specs.Option.{unwrap_or}
+use Rattle.tdm_problem.specs.Board.{Board}
+use Rattle.tdm_problem.specs.Walk.{IsWalk, AnyWire}
+use Rattle.tdm_problem.specs.Distance.{length_of}
+use Rattle.tdm_problem.proofs.Walks.{IsWalk-reverse}
+use Rattle.shortest_forest.specs.Arcs.{both_ways, IsGoal, IsLowerBound}
+use Rattle.shortest_forest.specs.Labels.{Labels, label_at, distance_in, IsAtLabel, IsSource, IsWayBack, IsUnderWay, IsNearest, AreFar, KeepsMarks}
+use Rattle.shortest_forest.proofs.UnderWay.{distance_unique}
+use Rattle.shortest_forest.proofs.WayLaws.{way_back-walk, way_back-source, arc_walk-from_walk}
+use Rattle.steiner_build.specs.Growth.{IsOn, IsBranch}
+use Rattle.steiner_build.specs.Joining.{IsTakenIn, IsWithinGoals, IsJoinedBy}
+use Rattle.steiner_build.proofs.WayLaws.{way-branch, branch-as}
+
+-- a list is as long back as forth
+length-reverse : (l : ℕ → ℕ) (es : List ℕ) → length_of l (reverse es) ≡ length_of l es
+length-reverse l [] = refl
+length-reverse l (e ∷ es) =
+    let split : length_of l (reverse (e ∷ es)) ≡ length_of l (reverse es ++ e ∷ []) = ap (length_of l) (reverse-append (e ∷ []) es) in
+    omega (arith, split, sum_by-append l (reverse es) (e ∷ []), length-reverse l es, sum_by-cons l e es, sum_by-cons l e [])
+
+-- what was appended is the part past the list as it was
+pub appended-part : (old es new : List ℕ) (n : ℕ) → n ≡ length old → new ≡ old ++ es → take (length new - n) (drop n new) ≡ es
+appended-part old es new n count is =
+    take_rest new n ∙ ap (λ (xs : List ℕ). drop n xs) is ∙ drop_at old es n (sym count)
+
+-- the distance that is read is that of the label
+pub distance-read : (s : Labels) (f distance : ℕ) → IsAtLabel s f distance → (read : Option ℕ) (value : ℕ) → read ≡ distance_in (label_at s f) → value ≡ unwrap_or read 0 → value ≡ distance
+distance-read s f distance at read value is valued = valued ∙ ap (λ (o : Option ℕ). unwrap_or o 0) (is ∙ ap distance_in at.1)
+
+module _ (board : Board) (l : ℕ → ℕ) (bound : ℕ → ℕ) (cap : ℕ) (old mid : Labels) (marks : KeepsMarks old mid) (sources : (f : ℕ) → IsSource mid f ↔ IsSource old f) (lawful : IsLowerBound board (both_ways l) old.goals bound) where
+  still-lawful : IsLowerBound board (both_ways l) mid.goals bound
+  still-lawful f es g total marked walk = lawful f es g total (subst (λ gs. IsGoal gs g) marks.goals marked) walk
+
+  still-marked : (g : ℕ) → IsGoal old.goals g → IsGoal mid.goals g
+  still-marked g marked = subst (λ gs. IsGoal gs g) (sym marks.goals) marked
+
+  -- where no goal is near, all are far
+  pub far-goals : AreFar board (both_ways l) bound cap mid → IsWithinGoals board l old cap
+  far-goals far a g es source marked walk =
+      let least = far.least still-lawful a 0 es g (length_of l es) (None, (sources a).1 source) (still-marked g marked) (arc_walk-from_walk board l a es g walk) in
+      omega (arith, least)
+
+  module _ (goal : ℕ) (near : IsNearest board (both_ways l) bound cap mid goal) where
+    near-goals : IsWithinGoals board l old near.distance
+    near-goals a g es source marked walk =
+        let least = near.least still-lawful a 0 es g (length_of l es) (None, (sources a).1 source) (still-marked g marked) (arc_walk-from_walk board l a es g walk) in
+        omega (arith, least)
+
+    pub IsJoinedBy-made : IsUnderWay board (both_ways l) bound cap mid → (es : List ℕ) (source : ℕ) → IsWayBack board mid goal es source
+        → (left new : Labels) → left.labels ≡ mid.labels → left.goals ≡ slice_set mid.goals goal false → new.goals ≡ left.goals → IsTakenIn board goal es left new
+        → (wires wires' : List ℕ) → wires' ≡ wires ++ es → IsJoinedBy board l old new wires wires' near.distance
+    IsJoinedBy-made under es source way left new labels unmarked same taken wires wires' appended = record {
+      goal = goal;
+      path = es;
+      marked = subst (λ gs. IsGoal gs goal) marks.goals near.marked;
+      branch = branch-as board goal es (IsSource mid) (IsSource old) (λ f. (sources f).0) (λ f. (sources f).1) (way-branch board mid goal es source way);
+      appended = appended;
+      taken_in = λ x. (
+        λ h. ⊎_elim (λ on. inl on) (λ is. inr ((sources x).0 (was-source x is))) ((taken x).0 h),
+        λ h. (taken x).1 (⊎_elim (λ on. inl on) (λ is. inr (is-source x ((sources x).1 is))) h),
+      );
+      goals = same ∙ unmarked ∙ ap (λ gs. slice_set gs goal false) marks.goals;
+      total = omega (arith, shorter, longer);
+      least = near-goals;
+    }
+      where
+        was-source : (x : ℕ) → IsSource left x → IsSource mid x
+        was-source x is = sym (ap (λ ls. slice_index_or ls x None) labels) ∙ is
+
+        is-source : (x : ℕ) → IsSource mid x → IsSource left x
+        is-source x is = ap (λ ls. slice_index_or ls x None) labels ∙ is
+
+        walk : IsWalk board (AnyWire board) goal es source × (length_of l es ≤ near.distance)
+        walk = way_back-walk board l mid under.labelled goal near.distance es source near.label way
+
+        shorter : length_of l es ≤ near.distance
+        shorter = walk.1
+
+        longer : near.distance ≤ length_of l es
+        longer =
+            let least = near-goals source goal (reverse es) ((sources source).0 (way_back-source board mid goal es source way)) (subst (λ gs. IsGoal gs goal) marks.goals near.marked)
+            (IsWalk-reverse board (AnyWire board) goal es source walk.0) in
+            omega (arith, least, length-reverse l es)
