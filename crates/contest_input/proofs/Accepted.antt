@@ -17,9 +17,9 @@ use Rattle.contest_input.specs.declared.header.Sizes.{Sizes}
 use Rattle.contest_input.specs.declared.kind.BoardKind.{BoardKind}
 use Rattle.contest_input.specs.Faults.{tokens_first, sizes_of, wire_of, wire_fault, net_fault, group_fault}
 use Rattle.contest_input.specs.BoardText.{largest_number, refused_at, judged, first_refusal, extra_refusal, wire_row, listed_row, unless, board_of_lines, board_of}
-use Rattle.contest_input.specs.Sections.{HaveNumbers, or_else, section_refusal}
-use Rattle.contest_input.proofs.LineLemmas.{HaveNumbers-lines_from}
-use Rattle.contest_input.proofs.WholeText.{of_header, after_header, bare, by_sections}
+use Rattle.contest_input.specs.Roles.{or_else, stop, in_wires}
+use Rattle.contest_input.proofs.LineLemmas.{HaveNumbers, HaveNumbers-lines_from}
+use Rattle.contest_input.proofs.WholeText.{of_header, bare, stop-section, by_sections}
 
 -- ---- where there is no refusal, no part of the judgement is one
 
@@ -61,9 +61,9 @@ missing-none true refusal none = absurd (cc)
 missing-none false refusal none = refl
 
 -- a section without a refusal has its lines
-section-none : (fault : ℕ → List ℕ → Option BoardKind) (count end : ℕ) (lines : List Line) → section_refusal fault count end lines ≡ None → (first_refusal (judged fault 0 (take count lines)) ≡ None) × (count ≤ length lines)
+section-none : (fault : ℕ → List ℕ → Option BoardKind) (count end : ℕ) (lines : List Line) → stop fault end 0 count lines ≡ None → (first_refusal (judged fault 0 (take count lines)) ≡ None) × (count ≤ length lines)
 section-none fault count end lines none =
-    let both = else-none (first_refusal (judged fault 0 (take count lines))) _ none in
+    let both = else-none (first_refusal (judged fault 0 (take count lines))) _ (sym (stop-section fault end 0 count lines) ∙ none) in
     (both.0, ltb-false (length lines) count (missing-none _ _ both.1))
 
 -- ---- wires
@@ -165,13 +165,13 @@ accepted-lines : (end : ℕ) (lines : List Line) (board : Board) → HaveNumbers
 accepted-lines end [] board have ok = absurd (cc)
 accepted-lines end (header ∷ below) board have ok =
     let sizes : Sizes = sizes_of header.numbers in
-    let head = unless-ok (of_header header) (after_header sizes (bare sizes.fpgas) end below) board (sym (by_sections end header below) ∙ ok) in
+    let head = unless-ok (of_header header) (in_wires sizes (bare sizes.fpgas) sizes.wires end below) board (sym (by_sections end header below) ∙ ok) in
     let within = header-within header head.0 in
     let behind_wires : List Line = drop sizes.wires below in
     let behind_nets : List Line = drop sizes.nets behind_wires in
-    let wired = unless-ok (section_refusal (λ _. wire_fault sizes.fpgas) sizes.wires end below) _ board head.1 in
-    let netted = unless-ok (section_refusal (net_fault sizes.fpgas) sizes.nets end behind_wires) _ board wired.1 in
-    let grouped = unless-ok (section_refusal (group_fault sizes.nets) sizes.groups end behind_nets) _ board netted.1 in
+    let wired = unless-ok (stop (λ _. wire_fault sizes.fpgas) end 0 sizes.wires below) _ board head.1 in
+    let netted = unless-ok (stop (net_fault sizes.fpgas) end 0 sizes.nets behind_wires) _ board wired.1 in
+    let grouped = unless-ok (stop (group_fault sizes.nets) end 0 sizes.groups behind_nets) _ board netted.1 in
     let ended = unless-ok (first_refusal (map extra_refusal (drop sizes.groups behind_nets))) _ board grouped.1 in
     let wires = section-none (λ _. wire_fault sizes.fpgas) sizes.wires end below wired.0 in
     let nets = section-none (net_fault sizes.fpgas) sizes.nets end behind_wires netted.0 in

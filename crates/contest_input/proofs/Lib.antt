@@ -1,7 +1,4 @@
 pub mod LineLemmas
-pub mod Progress
-pub mod WireProgress
-pub mod ListProgress
 pub mod WholeText
 pub mod RoleLaws
 pub mod RoleSteps

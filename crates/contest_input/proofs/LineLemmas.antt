@@ -4,7 +4,11 @@ use Rattle.std.specs.Prelude.{is_some}
 use Rattle.tdm_lines.specs.declared.line.TokenFault.{TokenFault}
 use Rattle.tdm_lines.specs.Tokens.{tokens, value}
 use Rattle.tdm_lines.specs.Lines.{Line, fault_of, lines_from, put_line}
-use Rattle.contest_input.specs.Sections.{HaveNumbers}
+
+-- each line without a fault has a number
+abbrev pub HaveNumbers : List Line → Type 0
+HaveNumbers [] = Unit {0}
+HaveNumbers (line ∷ later) = (line.fault ≡ None → 0 < length line.numbers) × HaveNumbers later
 
 some_numbers : (fault : Option TokenFault) (t : List ℕ) (ts : List (List ℕ)) → fault ≡ None → 0 < length (cond (is_some fault) [] (value t ∷ map value ts))
 some_numbers None t ts none = omega arith

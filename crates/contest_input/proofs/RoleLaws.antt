@@ -1,5 +1,5 @@
 -- A section line by line, and the sections of a board text in turn.
-use Rattle.std.proofs.Common.{◌≡◌, ℕ, zero, suc, ◌+◌, ◌-◌, ◌<◌, List, [], ◌∷◌, ◌++◌, length, take, drop, map, Option, None, Some, Result, Ok, Err, refl, sym, ◌∙◌, ap, arith, append_assoc}
+use Rattle.std.proofs.Common.{◌≡◌, ℕ, zero, suc, ◌+◌, ◌-◌, ◌<◌, List, [], ◌∷◌, ◌++◌, length, take, drop, map, Option, None, Some, Result, Err, refl, sym, ◌∙◌, ap, arith, append_assoc}
 use Rattle.std.proofs.lemmas.List.{append-nil}
 use Rattle.tdm_lines.specs.Lines.{Line}
 use Rattle.tdm_problem.specs.Board.{Board, without_repeats}
@@ -9,11 +9,8 @@ use Rattle.contest_input.specs.declared.header.Sizes.{Sizes}
 use Rattle.contest_input.specs.declared.kind.BoardKind.{BoardKind}
 use Rattle.contest_input.specs.declared.kind.BoardKind.TheVariants.{MissingLine}
 use Rattle.contest_input.specs.Faults.{tokens_first, wire_of, wire_fault, net_fault, group_fault}
-use Rattle.contest_input.specs.BoardText.{refused_at, first_refusal, extra_refusal, unless, board_of_lines, listed_row, wire_row}
-use Rattle.contest_input.specs.Sections.{or_else, section_refusal}
-use Rattle.contest_input.specs.Roles.{stop, in_section, at_end, in_groups, in_nets, in_wires}
-use Rattle.contest_input.proofs.Progress.{stop-section}
-use Rattle.contest_input.proofs.WholeText.{after_groups, after_nets, after_wires, after_header}
+use Rattle.contest_input.specs.BoardText.{refused_at, unless}
+use Rattle.contest_input.specs.Roles.{or_else, stop, in_section, at_end, in_groups, in_nets, in_wires}
 
 module _ {R : Type 0} (fault : ℕ → List ℕ → Option BoardKind) (row : List ℕ → R) (next : List R → List Line → Result Board BoardRefusal) (end : ℕ) where
   -- a section with no line left
@@ -45,27 +42,6 @@ stop-any fault end a b zero lines = refl
 stop-any fault end a b (suc left) [] = refl
 stop-any fault end a b (suc left) (line ∷ later) =
     ap (λ r. or_else (refused_at line.number (tokens_first line.fault (fault line.numbers))) r) (stop-any fault end (a + length line.numbers) (b + length line.numbers) left later)
-
-groups-same : (sizes : Sizes) (fpgas : ℕ) (wires : List Wire) (nets : List (List ℕ)) (end : ℕ) (lines : List Line)
-    → let board : Board = record { fpgas = fpgas; wires = wires; nets = nets; groups = [] } in
-    after_nets sizes board end lines ≡ in_groups sizes board sizes.groups 0 end lines
-groups-same sizes fpgas wires nets end lines =
-    ap (λ w. unless w (after_groups (record { fpgas = fpgas; wires = wires; nets = nets; groups = map listed_row (take sizes.groups lines) }) (drop sizes.groups lines))) (sym (stop-section (group_fault sizes.nets) end 0 sizes.groups lines))
-
-nets-same : (sizes : Sizes) (fpgas : ℕ) (wires : List Wire) (end : ℕ) (lines : List Line)
-    → let board : Board = record { fpgas = fpgas; wires = wires; nets = []; groups = [] } in
-    after_wires sizes board end lines ≡ in_nets sizes board sizes.nets 0 end lines
-nets-same sizes fpgas wires end lines =
-    ap (λ w. unless w (after_nets sizes (record { fpgas = fpgas; wires = wires; nets = map listed_row (take sizes.nets lines); groups = [] }) end (drop sizes.nets lines))) (sym (stop-section (net_fault sizes.fpgas) end 0 sizes.nets lines))
-    ∙ ap (unless (stop (net_fault sizes.fpgas) end 0 sizes.nets lines)) (groups-same sizes fpgas wires (map listed_row (take sizes.nets lines)) end (drop sizes.nets lines))
-
--- the sections after the header are read in turn
-pub wires-same : (sizes : Sizes) (fpgas end : ℕ) (lines : List Line)
-    → let board : Board = record { fpgas = fpgas; wires = []; nets = []; groups = [] } in
-    after_header sizes board end lines ≡ in_wires sizes board sizes.wires end lines
-wires-same sizes fpgas end lines =
-    ap (λ w. unless w (after_wires sizes (record { fpgas = fpgas; wires = map wire_row (take sizes.wires lines); nets = []; groups = [] }) end (drop sizes.wires lines))) (sym (stop-section (λ _. wire_fault sizes.fpgas) end 0 sizes.wires lines))
-    ∙ ap (unless (stop (λ _. wire_fault sizes.fpgas) end 0 sizes.wires lines)) (nets-same sizes fpgas (map wire_row (take sizes.wires lines)) end (drop sizes.wires lines))
 
 one_less : (left : ℕ) → 0 < left → left ≡ suc (left - 1)
 one_less left some = omega arith

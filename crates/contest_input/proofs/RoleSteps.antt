@@ -1,12 +1,11 @@
 -- What a line that ends makes of what is said.
-use Rattle.std.proofs.Common.{◌≡◌, ℕ, suc, ◌+◌, ◌-◌, ◌<◌, List, [], ◌∷◌, ◌++◌, length, Option, None, Some, Err, refl, sym, ◌∙◌, ap, arith}
+use Rattle.std.proofs.Common.{◌≡◌, ℕ, suc, ◌-◌, ◌<◌, List, ◌∷◌, length, Option, None, Some, Err, refl, sym, ◌∙◌, ap, arith}
 use Rattle.tdm_lines.specs.Lines.{Line}
 use Rattle.tdm_lines.specs.SoFar.{ended_line}
 use Rattle.tdm_lines.specs.Written.{plain_line}
 use Rattle.tdm_lines.specs.declared.line.TokenFault.{TokenFault}
 use Rattle.tdm_lines.specs.declared.line.TokenFault.TheVariants as token
 use Rattle.tdm_problem.specs.Board.{Board, without_repeats}
-use Rattle.tdm_problem.specs.declared.wire.Wire.{Wire}
 use Rattle.contest_input.specs.declared.fault.BoardRefusal.{BoardRefusal}
 use Rattle.contest_input.specs.declared.header.Sizes.{Sizes}
 use Rattle.contest_input.specs.declared.kind.BoardKind.{BoardKind}
@@ -15,8 +14,8 @@ use Rattle.contest_input.specs.declared.roles.Role.{Role}
 use Rattle.contest_input.specs.declared.roles.Role.TheVariants as role
 use Rattle.contest_input.specs.Faults.{sizes_of, wire_of, wire_fault, net_fault, group_fault}
 use Rattle.contest_input.specs.BoardText.{refused_at, unless}
-use Rattle.contest_input.specs.Roles.{said_in, line_kind, IsInRole, in_section, in_nets, in_groups, at_end}
-use Rattle.contest_input.proofs.WholeText.{by_sections, after_header, bare}
+use Rattle.contest_input.specs.Roles.{said_in, line_kind, IsInRole, in_section, in_wires, in_nets, in_groups, at_end}
+use Rattle.contest_input.proofs.WholeText.{by_sections, bare}
 use Rattle.contest_input.proofs.RoleLaws.{section-refused}
 
 pub number-is : (n : ℕ) (fault : Option TokenFault) (numbers : List ℕ) → (ended_line n fault numbers).number ≡ n
@@ -32,7 +31,7 @@ same-line n (Some f) items numbers same = refl
 pub said-refused : (r : Role) (sizes : Sizes) (board : Board) (left listed end : ℕ) (line : Line) (more : List Line) (kind : BoardKind) → IsInRole r sizes board left listed → line_kind r sizes listed line ≡ Some kind
     → said_in r sizes board left listed end (line ∷ more) ≡ Err (record { kind = kind; line = line.number })
 said-refused role.Header sizes board left listed end line more kind fits is =
-    by_sections end line more ∙ ap (λ k. unless (refused_at line.number k) (after_header (sizes_of line.numbers) (bare (sizes_of line.numbers).fpgas) end more)) is
+    by_sections end line more ∙ ap (λ k. unless (refused_at line.number k) (in_wires (sizes_of line.numbers) (bare (sizes_of line.numbers).fpgas) (sizes_of line.numbers).wires end more)) is
 said-refused role.Wire sizes board left listed end line more kind fits is =
     let one : left ≡ suc (left - 1) = omega (arith, fits.some) in
     ap (λ k. in_section (λ _. wire_fault sizes.fpgas) wire_of (λ rows. in_nets sizes (record board { wires = rows }) sizes.nets 0 end) end k 0 board.wires (line ∷ more)) one

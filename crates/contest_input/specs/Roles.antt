@@ -12,7 +12,11 @@ use Rattle.contest_input.specs.declared.roles.Role.TheVariants as role
 use Rattle.contest_input.specs.declared.roles.BoardState.{BoardState}
 use Rattle.contest_input.specs.Faults.{tokens_first, header_fault, wire_of, wire_fault, net_fault, group_fault}
 use Rattle.contest_input.specs.BoardText.{refused_at, first_refusal, extra_refusal, unless, board_of_lines}
-use Rattle.contest_input.specs.Sections.{or_else}
+
+-- the first, or else the second
+abbrev pub or_else : Option BoardRefusal → Option BoardRefusal → Option BoardRefusal
+or_else None second = second
+or_else (Some refusal) second = Some refusal
 
 -- what stops the next lines of a section with so many left, where the earlier ones have so many numbers
 abbrev pub stop : (ℕ → List ℕ → Option BoardKind) → ℕ → ℕ → ℕ → List Line → Option BoardRefusal

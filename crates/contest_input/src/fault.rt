@@ -1,8 +1,6 @@
 //! What reading a board text answers in place of a board.
-ghost use Rattle.std.specs.Prelude.{◌≡◌, IfErr, OnOk, None};
+ghost use Rattle.std.specs.Prelude.{◌≡◌};
 ghost use Rattle.contest_input.specs.declared.fault.BoardFault.TheVariants.{Refused};
-ghost use Rattle.contest_input.specs.BoardText.{refused_at};
-ghost use Rattle.contest_input.specs.Sections.{IsFor};
 
 use crate::kind::BoardKind;
 use std::alloc::AllocError;
@@ -44,15 +42,4 @@ pub(crate) fn refused(kind: BoardKind, line: u32) -> BoardFault
     ensures { result ≡ Refused (record { kind = kind; line = line }) }
 {
     BoardFault::Refused(BoardRefusal { kind, line })
-}
-
-/// Refuses a line that has a fault.
-pub(crate) fn check_line(fault: Option<BoardKind>, line: u32) -> Result<(), BoardFault>
-    ensures ok { OnOk result (fault ≡ None) }
-    ensures err { IfErr result (IsFor (refused_at line fault)) }
-{
-    match fault {
-        None => Ok(()),
-        Some(kind) => Err(refused(kind, line)),
-    }
 }

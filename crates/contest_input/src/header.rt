@@ -1,13 +1,9 @@
 //! The header of a board text.
 ghost use Rattle.tdm_problem.specs.Limits.{most_fpgas, most_wires, most_nets, most_groups};
-ghost use Rattle.std.specs.Prelude.{◌≤◌, ◌≡◌, IfOk, OnOk, IfErr, None};
-ghost use Rattle.contest_input.specs.declared.kind.BoardKind.TheVariants.{NoHeader};
+ghost use Rattle.std.specs.Prelude.{◌≤◌, ◌≡◌, None};
 ghost use Rattle.contest_input.specs.Faults.{sizes_of, header_fault};
-ghost use Rattle.contest_input.specs.Sections.{next_refusal, next_numbers, after_line, IsFor};
 
-use crate::fault::{BoardFault, check_line};
 use crate::kind::BoardKind;
-use crate::source::Source;
 use tdm_problem::{MAX_FPGAS, MAX_GROUPS, MAX_NETS, MAX_WIRES};
 
 /// How many FPGAs, wires, nets and groups the header says there are.
@@ -51,22 +47,4 @@ pub(crate) fn sizes_of(numbers: &[u64]) -> Sizes
         nets: numbers[2] as u32,
         groups: numbers[3] as u32,
     }
-}
-
-/// Reads the header.
-pub(crate) fn read_header(source: &mut Source<'_>) -> Result<Sizes, BoardFault>
-    ensures clean { OnOk result (next_refusal NoHeader header_fault source.old.end source.old.lines ≡ None) }
-    ensures sizes { IfOk result (λ sizes. sizes ≡ sizes_of (next_numbers source.old.lines)) }
-    ensures rest { OnOk result (source.new ≡ after_line source.old) }
-    ensures err { IfErr result (IsFor (next_refusal NoHeader header_fault source.old.end source.old.lines)) }
-{
-    let line = source.next_line(BoardKind::NoHeader)?;
-    let numbers = source.numbers();
-    check_line(header_fault(numbers), line)?;
-    Ok(Sizes {
-        fpgas: numbers[0] as u32,
-        wires: numbers[1] as u32,
-        nets: numbers[2] as u32,
-        groups: numbers[3] as u32,
-    })
 }

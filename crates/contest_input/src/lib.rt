@@ -4,16 +4,13 @@
 #[cfg(test)]
 mod definitions;
 mod fault;
-mod groups;
 mod header;
 mod kind;
 mod law;
 mod lists;
-mod nets;
 mod read;
 mod reader;
 mod roles;
-mod source;
 #[cfg(test)]
 mod tests;
 mod wires;

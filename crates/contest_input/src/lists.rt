@@ -1,15 +1,13 @@
 //! Lines that list things by their numbers.
-ghost use Rattle.std.specs.Prelude.{◌≡◌, ◌+◌, ◌<◌, ◌≤◌, ◌^◌, length, All, OnOk, IfOk, IfErr, IfNone, None, nat_le};
+ghost use Rattle.std.specs.Prelude.{ℕ, List, ◌≡◌, ◌<◌, ◌≤◌, ◌^◌, All, OnOk, IfNone, nat_le};
 ghost use Rattle.std.specs.Bool.{OnFalse};
 ghost use Rattle.std.specs.List.{list_any};
-ghost use Rattle.contest_input.specs.declared.kind.BoardKind.TheVariants.{MissingLine};
+ghost use Rattle.contest_input.specs.Faults.{net_fault, group_fault};
 ghost use Rattle.contest_input.specs.Lists.{list_fault};
-ghost use Rattle.contest_input.specs.Sections.{next_refusal, next_numbers, after_line, IsFor};
 
-use crate::fault::{BoardFault, check_line};
 use crate::kind::BoardKind;
-use crate::source::Source;
 use std::alloc::AllocError;
+use tdm_problem::{MAX_LISTED_FPGAS, MAX_LISTED_NETS};
 
 /// What the lines of a section list.
 #[derive(Clone, Copy)]
@@ -20,6 +18,28 @@ pub(crate) struct Listing {
     pub(crate) below: u32,
     /// The most numbers that the lines of the section may have together.
     pub(crate) most: u64,
+}
+
+/// What net lines list on a board with so many FPGAs.
+pub(crate) fn net_listing(fpgas: u32) -> Listing
+    ensures { (listed : ℕ) (numbers : List ℕ) → list_fault result listed numbers ≡ net_fault fpgas listed numbers }
+{
+    Listing {
+        unknown: BoardKind::UnknownFpga,
+        below: fpgas,
+        most: MAX_LISTED_FPGAS,
+    }
+}
+
+/// What group lines list on a board with so many nets.
+pub(crate) fn group_listing(nets: u32) -> Listing
+    ensures { (listed : ℕ) (numbers : List ℕ) → list_fault result listed numbers ≡ group_fault nets listed numbers }
+{
+    Listing {
+        unknown: BoardKind::UnknownNet,
+        below: nets,
+        most: MAX_LISTED_NETS,
+    }
 }
 
 /// Whether some number names nothing, where there are things below a number alone.
@@ -60,33 +80,4 @@ pub(crate) fn narrow(numbers: &[u64], row: &mut Vec<u32>) -> Result<(), AllocErr
         row.push(n as u32)?;
     }
     Ok(())
-}
-
-/// Reads one line of a section whose earlier lines have `listed` numbers, and writes its numbers into `row`.
-/// Answers how many numbers the section has with this line.
-pub(crate) fn read_list(
-    source: &mut Source<'_>,
-    listing: Listing,
-    listed: u64,
-    row: &mut Vec<u32>,
-) -> Result<u64, BoardFault>
-    requires { listed < 2 ^ 32 }
-    ensures clean { OnOk result (next_refusal MissingLine
-        (list_fault listing (listed + length (next_numbers source.old.lines))) source.old.end source.old.lines ≡ None) }
-    ensures listed { IfOk result (λ total. total ≡ listed + length (next_numbers source.old.lines)) }
-    ensures within { IfOk result (λ total. total ≤ listing.most) }
-    ensures row { OnOk result (row.new.items ≡ next_numbers source.old.lines) }
-    ensures some { OnOk result (0 < length row.new.items) }
-    ensures there { OnOk result (All (λ n. n < listing.below) row.new.items) }
-    ensures rest { OnOk result (source.new ≡ after_line source.old) }
-    ensures end { source.new.end ≡ source.old.end }
-    ensures err { IfErr result (IsFor (next_refusal MissingLine
-        (list_fault listing (listed + length (next_numbers source.old.lines))) source.old.end source.old.lines)) }
-{
-    let line = source.next_line(BoardKind::MissingLine)?;
-    let numbers = source.numbers();
-    let total = listed + numbers.len() as u64;
-    check_line(list_fault(listing, total, numbers), line)?;
-    narrow(numbers, row)?;
-    Ok(total)
 }

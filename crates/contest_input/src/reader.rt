@@ -2,6 +2,7 @@
 ghost use Rattle.std.specs.Prelude.{◌≡◌, ◌+◌, ◌≤◌, ◌^◌, ◌++◌, ℕ, List, [], length, IfOk, IfErr, OnOk, OnErr, IsTrue, Ok, Err, alloc_error, true, false};
 ghost use Rattle.contest_input.specs.BoardText.{board_of, IsRefusalOf};
 ghost use Rattle.contest_input.specs.Reader.{IsAt};
+ghost use Rattle.contest_input.specs.declared.fault.BoardFault.TheVariants.{NoMemory};
 
 use crate::fault::{BoardFault, refused};
 use crate::kind::BoardKind;
@@ -75,8 +76,9 @@ impl BoardReader {
         Ok(())
     }
 
-    /// Ends the text, and answers what it says.
+    /// Ends the text, and answers what it says. A reader that is spent answers NoMemory.
     pub fn end(self) -> Result<Problem, BoardFault>
+        ensures stays { self.spent ≡ true → result ≡ Err NoMemory }
         ensures board { IfOk result (λ problem. (text : List ℕ) → IsAt self text → board_of text ≡ Ok problem) }
         ensures refused { IfErr result (λ fault. (text : List ℕ) → IsAt self text → IsRefusalOf (board_of text) fault) }
     {

@@ -11,11 +11,9 @@ ghost use Rattle.contest_input.specs.declared.roles.Role.TheVariants as role;
 ghost use Rattle.contest_input.specs.declared.fault.BoardRefusal.{BoardRefusal};
 
 use crate::fault::BoardRefusal;
-use crate::groups::group_listing;
 use crate::header::{Sizes, header_fault, sizes_of};
 use crate::kind::BoardKind;
-use crate::lists::{list_fault, narrow};
-use crate::nets::net_listing;
+use crate::lists::{group_listing, list_fault, narrow, net_listing};
 use crate::wires::{wire_fault, wire_of};
 use std::alloc::{AllocError, Global};
 use tdm_lines::{Grammar, TokenFault};

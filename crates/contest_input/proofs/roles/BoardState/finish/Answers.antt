@@ -1,4 +1,4 @@
-use Rattle.std.proofs.Common.{◌≡◌, [], sym, subst, ap, ◌∙◌}
+use Rattle.std.proofs.Common.{[], sym, subst, ap, ◌∙◌}
 use Rattle.contest_input.specs.declared.roles.Role.{Role}
 use Rattle.contest_input.specs.Roles.{said_in, IsInRole}
 use Rattle.contest_input.proofs.RoleFits.{wires-missing, nets-missing, groups-missing}

@@ -1,5 +1,5 @@
-use Rattle.std.proofs.Common.{◌≡◌, ℕ, List, ◌∷◌, [], ◌++◌, ◌-◌, ◌+◌, length, ap, sym, subst, ◌∙◌, arith}
-use Rattle.tdm_problem.specs.Board.{Board, without_repeats}
+use Rattle.std.proofs.Common.{ℕ, List, ◌∷◌, [], ◌++◌, ◌-◌, ◌+◌, length, ap, sym, subst, ◌∙◌, arith}
+use Rattle.tdm_problem.specs.Board.{without_repeats}
 use Rattle.tdm_lines.specs.Written.{plain_line}
 use Rattle.contest_input.specs.declared.roles.Role.{Role}
 use Rattle.contest_input.specs.Roles.{said_in, IsInRole}

@@ -1,5 +1,4 @@
-use Rattle.std.proofs.Common.{◌≡◌, ℕ, List, ◌∷◌, [], ◌++◌, ◌-◌, ap, sym, ◌∙◌, arith}
-use Rattle.tdm_problem.specs.Board.{Board}
+use Rattle.std.proofs.Common.{◌∷◌, [], ◌++◌, ◌-◌, ap, sym, ◌∙◌, arith}
 use Rattle.tdm_problem.specs.declared.wire.Wire.{Wire}
 use Rattle.tdm_lines.specs.Written.{plain_line}
 use Rattle.contest_input.specs.declared.roles.Role.{Role}

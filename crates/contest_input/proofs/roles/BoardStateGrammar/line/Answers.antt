@@ -1,8 +1,7 @@
-use Rattle.std.proofs.Common.{◌≡◌, ℕ, List, ◌∷◌, [], ◌++◌, Err, ap, sym, ◌∙◌, append_assoc}
+use Rattle.std.proofs.Common.{ℕ, List, ◌∷◌, [], Err, ap, sym, ◌∙◌, append_assoc}
 use Rattle.tdm_lines.specs.Lines.{Line}
 use Rattle.tdm_lines.specs.SoFar.{ended_line}
 use Rattle.contest_input.specs.BoardText.{board_of_lines}
-use Rattle.contest_input.specs.declared.fault.BoardRefusal.{BoardRefusal}
 use Rattle.contest_input.specs.Roles.{said_in}
 use Rattle.contest_input.proofs.RoleSteps.{said-refused, clean-plain, taken-line, same-line, number-is}
 use Rattle.contest_input.proofs.roles.BoardStateGrammar.line.Goals as goal
