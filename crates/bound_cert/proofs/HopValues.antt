@@ -1,11 +1,11 @@
 -- The distances of a forest as the values of a potential.
-use Rattle.std.proofs.Common.{◌≡◌, ℕ, ◌≤◌, Option, Some, None, length, map, refl, sym, ◌∙◌, subst, inl, inr, arith}
+use Rattle.std.proofs.Common.{◌≡◌, ℕ, ◌<◌, ◌≤◌, Option, Some, None, List, length, get_or, map, refl, sym, ◌∙◌, subst, inl, inr, arith}
 use Rattle.std.specs.Prelude.{All, MatchOption}
 use Rattle.std.specs.Option.{unwrap_or}
 use Rattle.std.proofs.lemmas.List.{get_or-map, length-map, get_or_default}
 use Rattle.std.proofs.lemmas.List.Elements.{All-map}
 use Rattle.tdm_problem.specs.Board.{Board}
-use Rattle.tdm_problem.specs.Distance.{IsHopCount}
+use Rattle.tdm_problem.specs.Distance.{IsDistance}
 use Rattle.tdm_problem.specs.Limits.{most_fpgas}
 use Rattle.board_graph.specs.Graph.{Graph, IsGraph, graph_of, board_of}
 use Rattle.shortest_forest.specs.Reach.{Reach, HasNoWalk, HasHops, IsHopForest, distance_of}
@@ -17,18 +17,18 @@ use Rattle.bound_cert.proofs.ChainLaws.{chain_short}
 abbrev pub or_zero : Option ℕ → ℕ
 or_zero x = unwrap_or x 0
 
-value_of : (board : Board) (root f : ℕ) (x : Option ℕ) → MatchOption x (HasNoWalk board root f) (IsHopCount board root f) → IsRootValue board (λ _. 1) root f (or_zero x)
-value_of board root f None none = inr (none, refl)
-value_of board root f (Some d) hops = inl hops
+value_of : (board : Board) (wire_length : ℕ → ℕ) (root f : ℕ) (x : Option ℕ) → MatchOption x (HasNoWalk board root f) (IsDistance board wire_length root f) → IsRootValue board wire_length root f (or_zero x)
+value_of board wire_length root f None none = inr (none, refl)
+value_of board wire_length root f (Some d) distance = inl distance
 
--- the distances of a forest are a potential of hops from its root
-pub IsRootPotential-from_hops : (board : Board) (reach : Reach) → HasHops board reach → IsRootPotential board (λ _. 1) reach.root (map or_zero reach.distances)
-IsRootPotential-from_hops board reach has = record {
-  count = length-map reach.distances or_zero ∙ has.distances.count;
+-- distances from a root are a potential
+pub IsRootPotential-from_distances : (board : Board) (wire_length : ℕ → ℕ) (root : ℕ) (distances : List (Option ℕ)) → length distances ≡ board.fpgas → ((f : ℕ) → f < board.fpgas → MatchOption (get_or distances f None) (HasNoWalk board root f) (IsDistance board wire_length root f)) → IsRootPotential board wire_length root (map or_zero distances)
+IsRootPotential-from_distances board wire_length root distances count exact = record {
+  count = length-map distances or_zero ∙ count;
   values = λ f below.
-      subst (λ (v : ℕ). IsRootValue board (λ _. 1) reach.root f v)
-      (sym (get_or-map or_zero reach.distances f None 0 (omega (arith, below, has.distances.count))))
-      (value_of board reach.root f (distance_of reach f) (has.distances.exact f below));
+      subst (λ (v : ℕ). IsRootValue board wire_length root f v)
+      (sym (get_or-map or_zero distances f None 0 (omega (arith, below, count))))
+      (value_of board wire_length root f (get_or distances f None) (exact f below));
 }
 
 -- each distance that there is has a bound
@@ -36,7 +36,7 @@ bounded : (x : Option ℕ) (most : ℕ) → ((d : ℕ) → x ≡ Some d → d �
 bounded None most bound = omega arith
 bounded (Some d) most bound = bound d refl
 
-all_bounded : (reach : Reach) (most : ℕ) → ((f d : ℕ) → distance_of reach f ≡ Some d → d ≤ most) → All (λ v. v ≤ most) (map or_zero reach.distances)
+pub all_bounded : (reach : Reach) (most : ℕ) → ((f d : ℕ) → distance_of reach f ≡ Some d → d ≤ most) → All (λ v. v ≤ most) (map or_zero reach.distances)
 all_bounded reach most bound =
     All-map (λ v. v ≤ most) or_zero reach.distances
     (λ f e below.
@@ -61,4 +61,7 @@ module _ (graph : Graph) (reach : Reach) (is : IsGraph graph) (forest : IsHopFor
 
   pub all_hops : (root : ℕ) → reach.root ≡ root → (board : Board) → graph ≡ graph_of board → IsRootPotential board (λ _. 1) root (map or_zero reach.distances)
   all_hops root at board same =
-      subst (λ (r : ℕ). IsRootPotential board (λ _. 1) r (map or_zero reach.distances)) at (IsRootPotential-from_hops board reach (forest.on_board board same))
+      subst (λ (r : ℕ). IsRootPotential board (λ _. 1) r (map or_zero reach.distances)) at (from_hops (forest.on_board board same))
+    where
+      from_hops : HasHops board reach → IsRootPotential board (λ _. 1) reach.root (map or_zero reach.distances)
+      from_hops has = IsRootPotential-from_distances board (λ _. 1) reach.root reach.distances has.distances.count has.distances.exact

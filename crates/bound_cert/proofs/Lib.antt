@@ -13,6 +13,7 @@ pub mod RootLaws
 pub mod Distinct
 pub mod ChainLaws
 pub mod HopValues
+pub mod LengthValues
 pub mod Largest
 pub mod DepthLaws
 pub mod Choices
@@ -29,5 +30,6 @@ pub mod HolderLaws
 pub mod ShareNumbers
 pub mod Rooted
 pub mod ShareCerts
+pub mod WeightedCerts
 pub mod Accepted
 pub mod FloorLaws

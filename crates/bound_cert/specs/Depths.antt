@@ -1,14 +1,18 @@
--- How far a net reaches: the most hops from its source to one of its FPGAs.
+-- How far a net reaches: the farthest of its FPGAs from its source, over lengths of wires or by hops.
 use Rattle.std.specs.Prelude.{◌≡◌, ℕ, ◌<◌, ◌≤◌, List, length, slice_index, sum_by, Contains}
 use Rattle.tdm_problem.specs.Board.{Board}
-use Rattle.tdm_problem.specs.Distance.{IsHopCount}
+use Rattle.tdm_problem.specs.Distance.{IsDistance}
 use Rattle.tdm_problem.specs.Legal.{terminals_of, source_of}
 
--- each FPGA of net n is within so many hops of its source, and one of them is exactly so many hops away
-pub record IsDepth (board : Board) (n depth : ℕ) : Type 0 where
+-- each FPGA of net n is within this distance of its source, and one of them is at exactly this distance
+pub record IsDepthOver (board : Board) (wire_length : ℕ → ℕ) (n depth : ℕ) : Type 0 where
   pub within : (f : ℕ) → Contains (terminals_of board n) f
-      → (hops : ℕ) × IsHopCount board (source_of board n) f hops × (hops ≤ depth)
-  pub reached : (f : ℕ) × Contains (terminals_of board n) f × IsHopCount board (source_of board n) f depth
+      → (far : ℕ) × IsDistance board wire_length (source_of board n) f far × (far ≤ depth)
+  pub reached : (f : ℕ) × Contains (terminals_of board n) f × IsDistance board wire_length (source_of board n) f depth
+
+-- the same by hops
+abbrev pub IsDepth : Board → (n depth : ℕ) → Type 0
+IsDepth board n depth = IsDepthOver board (λ _. 1) n depth
 
 -- the depth of net n
 abbrev pub depth_of : (depths : List ℕ) → (n : ℕ) → ℕ

@@ -14,3 +14,4 @@ pub mod Depths
 pub mod Floors
 pub mod Makers
 pub mod Scaling
+pub mod Weighted

@@ -89,7 +89,11 @@ fn hop_potential(alloc: Global, graph: &BoardGraph, root: u32) -> Result<Potenti
 }
 
 /// The distance of each FPGA from the root of a forest, 0 where no wires lead there.
-fn distances_of(alloc: Global, graph: &BoardGraph, forest: &Forest) -> Result<Vec<u64>, AllocError>
+pub(crate) fn distances_of(
+    alloc: Global,
+    graph: &BoardGraph,
+    forest: &Forest,
+) -> Result<Vec<u64>, AllocError>
     requires { length forest.now.distances ≡ graph.now.fpgas }
     ensures values { IfOk result (λ values. values.items
         ≡ map (λ distance. unwrap_or distance 0) forest.now.distances) }

@@ -24,6 +24,7 @@ mod scaling;
 mod share_maker;
 #[cfg(test)]
 mod text_tests;
+mod weighted_maker;
 mod write;
 
 pub use certificate::{CertKind, Certificate};
@@ -36,4 +37,5 @@ pub use limits::{
 pub use read::{MAX_CERT_BYTES, read_cert};
 pub use refusal::{CertFault, CertRefusal, CertTextKind};
 pub use share_maker::uniform_share_cert;
+pub use weighted_maker::weighted_share_cert;
 pub use write::write_cert;

@@ -5,7 +5,7 @@ ghost use Rattle.board_graph.specs.Graph.{graph_of};
 ghost use Rattle.bound_cert.specs.Certificate.{IsCertFor};
 ghost use Rattle.tdm_problem.specs.Legal.{AllConnectable};
 
-use crate::{CertKind, Certificate, hop_group_cert, uniform_share_cert};
+use crate::{CertKind, Certificate, hop_group_cert, uniform_share_cert, weighted_share_cert};
 use board_graph::BoardGraph;
 use shortest_forest::{base_tree, hops};
 use std::alloc::{AllocError, Global};
@@ -119,6 +119,35 @@ fn have(
     )
 }
 
+/// Makes the certificate of the three nets on a wire at weight 1 and length 3, and tells whether it has its numbers.
+fn weighted_has_its_numbers(alloc: Global) -> Result<bool, AllocError> {
+    let problem = three_nets(alloc)?;
+    let graph = BoardGraph::of(alloc, &problem)?;
+    if !is_connectable(alloc, &problem, &graph)? || problem.groups() != 1 || problem.wires() != 1 {
+        return Ok(false);
+    }
+    let cert = weighted_share_cert(alloc, &problem, &graph, &[1], &[3])?;
+    Ok(
+        cert.kind() == CertKind::Share
+            && numbers(alloc, &problem, &cert)?.as_slice() == [1, 3, 0, 3, 1, 1, 1].as_slice(),
+    )
+}
+
+/// Makes the certificate of the star with wires of lengths 5, 0 and 2.
+fn star_over_lengths_has_its_numbers(alloc: Global) -> Result<bool, AllocError> {
+    let problem = star(alloc)?;
+    let graph = BoardGraph::of(alloc, &problem)?;
+    if !is_connectable(alloc, &problem, &graph)? || problem.groups() != 1 || problem.wires() != 3 {
+        return Ok(false);
+    }
+    let cert = weighted_share_cert(alloc, &problem, &graph, &[4], &[5, 0, 2])?;
+    Ok(
+        cert.kind() == CertKind::Share
+            && numbers(alloc, &problem, &cert)?.as_slice()
+                == [4, 5, 0, 2, 5, 0, 5, 7, 1].as_slice(),
+    )
+}
+
 /// Whether the star's certificates have the numbers that they must.
 fn star_has_its_numbers(alloc: Global) -> Result<bool, AllocError> {
     let problem = star(alloc)?;
@@ -150,5 +179,7 @@ fn certificates_have_the_numbers_of_their_boards(rt: HostRuntime) -> Result<(), 
     assert!(rt; star_has_its_numbers(rt.alloc())?);
     assert!(rt; three_nets_have_their_numbers(rt.alloc())?);
     assert!(rt; path_has_its_numbers(rt.alloc())?);
+    assert!(rt; weighted_has_its_numbers(rt.alloc())?);
+    assert!(rt; star_over_lengths_has_its_numbers(rt.alloc())?);
     Ok(())
 }
