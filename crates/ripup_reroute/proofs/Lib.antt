@@ -1,0 +1,5 @@
+pub mod Adding
+pub mod Summing
+pub mod Looking
+pub mod TurnLaws
+pub mod PassLaws

@@ -1,0 +1,3 @@
+pub mod Turns
+pub mod Rerouting
+pub mod Working
