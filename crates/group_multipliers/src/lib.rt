@@ -5,7 +5,7 @@
 mod definitions;
 mod renewal;
 
-pub use renewal::next_weights;
+pub use renewal::{largest_sum, next_weights};
 
 #[cfg(test)]
 mod tests;

@@ -14,13 +14,13 @@ const MAX_WEIGHT: u128 = 1 << 40;
 /// range from 1 to 2^40, so that the largest becomes 2^40. Each division rounds down. This is the multiplicative form
 /// of a subgradient step on the weights of the groups.
 ///
-/// There are as many sums as weights. A weight is from 1 to 2^40, a sum at most 2^80, and some sum is above 0. The
+/// There are as many sums as weights. A weight is from 1 to 2^40, a sum at most 2^87, and some sum is above 0. The
 /// only error is want of memory.
 pub fn next_weights(alloc: Global, weights: &[u64], sums: &[u128]) -> Result<Vec<u64>, AllocError>
     requires paired { length sums.now ≡ length weights.now }
     requires positive { All (λ weight. 1 ≤ weight) weights.now }
     requires limited { All (λ weight. weight ≤ 2 ^ 40) weights.now }
-    requires small { All (λ total. total ≤ 2 ^ 80) sums.now }
+    requires small { All (λ total. total ≤ 2 ^ 87) sums.now }
     requires some { 0 < largest sums.now }
     ensures value { IfOk result (λ renewal. renewal.items ≡ renewed weights.now sums.now) }
     ensures positive { IfOk result (λ renewal. All (λ weight. 1 ≤ weight) renewal.items) }
@@ -32,9 +32,9 @@ pub fn next_weights(alloc: Global, weights: &[u64], sums: &[u128]) -> Result<Vec
     Ok(renewal)
 }
 
-/// The largest sum of a group.
+/// The largest sum of a group, 0 without groups.
 #[tactic(auto, using(crate::proofs::Largest::largest_more))]
-fn largest_sum(sums: &[u128]) -> u128
+pub fn largest_sum(sums: &[u128]) -> u128
     ensures { result ≡ largest sums.now }
 {
     let mut most = 0;
@@ -69,7 +69,7 @@ fn pulls_of(
 ) -> Result<Vec<u64>, AllocError>
     requires paired { length sums.now ≡ length weights.now }
     requires limited { All (λ weight. weight ≤ 2 ^ 40) weights.now }
-    requires small { greatest ≤ 2 ^ 80 }
+    requires small { greatest ≤ 2 ^ 87 }
     requires some { 0 < greatest }
     requires is { greatest ≡ largest sums.now }
     ensures { IfOk result (λ all. all.items ≡ pulls weights.now sums.now) }
@@ -85,7 +85,7 @@ fn pulls_of(
 fn pull_of(weight: u64, sum: u128, greatest: u128) -> u64
     requires limited { weight ≤ 2 ^ 40 }
     requires within { sum ≤ greatest }
-    requires small { greatest ≤ 2 ^ 80 }
+    requires small { greatest ≤ 2 ^ 87 }
     requires some { 0 < greatest }
     ensures { result ≡ pull greatest weight sum }
 {

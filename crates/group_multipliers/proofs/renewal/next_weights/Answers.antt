@@ -8,7 +8,7 @@ use Rattle.group_multipliers.proofs.Pulls.{pulls-le, pull_there, weights_positiv
 use Rattle.group_multipliers.proofs.renewal.next_weights.Goals as goal
 
 pub pulls_of-requires-clause-small : goal.pulls_of-requires-clause-small
-pulls_of-requires-clause-small c = omega (arith, largest_least c.args.sums.now (2 ^ 80) c.requires.small)
+pulls_of-requires-clause-small c = omega (arith, largest_least c.args.sums.now (2 ^ 87) c.requires.small)
 
 pub spread-requires-clause-limited : goal.spread-requires-clause-limited
 spread-requires-clause-limited c =
