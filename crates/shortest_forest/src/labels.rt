@@ -1,5 +1,5 @@
 //! The labels of a search over lengths, its goals and its queue: a workspace that is made once for a graph.
-ghost use Rattle.std.specs.Prelude.{◌≡◌, ◌<◌, ◌≤◌, ℕ, true, false, ◌∷◌, [], length, Some, None, replicate, slice_get, slice_index_or, slice_set, IfOk, IfSome, IfNone, OnOk, IsTrue, ◌↔◌, IsPermutation};
+ghost use Rattle.std.specs.Prelude.{◌≡◌, ◌<◌, ◌≤◌, ℕ, true, false, ◌∷◌, [], length, Some, None, replicate, slice_get, slice_index_or, slice_set, IfOk, IfSome, IfNone, OnOk, OnErr, IsTrue, ◌↔◌, IsPermutation};
 ghost use Rattle.shortest_forest.specs.Labels.{label_at, distance_in, wire_in, IsAtLabel, IsWaiting, IsLowered, IsTaken, IsFront, KeepsMarks, StaysUnderWay, IsBegun};
 
 use crate::label::Label;
@@ -76,7 +76,8 @@ impl Search {
         self.stamp = stamp;
     }
 
-    /// Makes FPGA `f` a source: it has the distance 0 and no wire, and waits in the queue.
+    /// Makes FPGA `f` a source: it has the distance 0 and no wire, and waits in the queue. After want of
+    /// memory the search is as it was.
     pub fn add_source(&mut self, f: u32) -> Result<(), AllocError>
         requires { f < length self.old.labels }
         ensures labels { OnOk result (self.new.labels ≡ slice_set self.old.labels f (Some (record { distance = 0; wire = None }))) }
@@ -84,6 +85,7 @@ impl Search {
         ensures count { length self.new.labels ≡ length self.old.labels }
         ensures queue { OnOk result (IsPermutation (record { 0 = (0, f) } ∷ self.old.queue) self.new.queue) }
         ensures under_way { OnOk result (StaysUnderWay self.old self.new) }
+        ensures err { OnErr result (self.new ≡ self.old) }
     {
         self.lower(f, 0, None)?;
         Ok(())
@@ -171,7 +173,7 @@ impl Search {
         }
     }
 
-    /// Gives FPGA `f` a label and puts it in the queue.
+    /// Gives FPGA `f` a label and puts it in the queue. After want of memory nothing has changed.
     pub(crate) fn lower(
         &mut self,
         f: u32,
@@ -181,6 +183,7 @@ impl Search {
         requires { f < length self.old.labels }
         ensures lowered { OnOk result (IsLowered f distance wire self.old self.new) }
         ensures marks { KeepsMarks self.old self.new }
+        ensures err { OnErr result (self.new ≡ self.old) }
     {
         self.queue.push(Reverse((distance, f)))?;
         self.labels[f as usize] = Stamped {

@@ -40,7 +40,7 @@ pub fn forest<Q: Lengths>(
 }
 
 /// Begins a search from FPGA `root` and settles all FPGAs that wires lead to. No FPGA is marked as a goal,
-/// before or after, so the same workspace serves the next root.
+/// before or after, so the same workspace serves the next root, after want of memory too.
 pub fn settle_all<Q: Lengths>(
     search: &mut Search,
     graph: &BoardGraph,
@@ -53,6 +53,7 @@ pub fn settle_all<Q: Lengths>(
     requires goals { search.old.goals ≡ replicate graph.now.fpgas false }
     ensures settled { OnOk result (IsAllSettled (board_of graph.now) (Q.length lengths.now) root search.new) }
     ensures goals { search.new.goals ≡ search.old.goals }
+    ensures count { length search.new.labels ≡ length search.old.labels }
 {
     let fpgas = graph.fpgas();
     search.begin();

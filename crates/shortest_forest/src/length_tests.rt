@@ -1,8 +1,9 @@
-ghost use Rattle.std.specs.Prelude.{◌^◌, min, slice_index};
+ghost use Rattle.std.specs.Prelude.{◌≡◌, ◌^◌, min, length, slice_index, IfOk};
 ghost use Rattle.std.proofs.Common.{rules};
 
 use crate::{Lengths, forest};
 use board_graph::BoardGraph;
+use std::alloc::{AllocError, Global};
 use tdm_problem::{ProblemDraft, Wire};
 
 /// Three lengths, the greatest length in place of a greater one.
@@ -50,9 +51,9 @@ fn two_short_wires_beat_a_long_one(rt: HostRuntime) {
     assert!(rt; least.dist(0) == Some(0) && least.parent_wire(0).is_none());
     assert!(rt; least.dist(1) == Some(1) && least.parent_wire(1) == Some(0));
     assert!(rt; least.dist(2) == Some(2) && least.parent_wire(2) == Some(1));
-    let dearer_first = forest(rt.alloc(), &graph, 0, &Three([4, 1, 3])).expect(&rt, "memory");
+    let dearer_first = forest(rt.alloc(), &graph, 0, &Three([2, 9, 3])).expect(&rt, "memory");
     assert!(rt; dearer_first.dist(2) == Some(3) && dearer_first.parent_wire(2) == Some(2));
-    assert!(rt; dearer_first.dist(1) == Some(4));
+    assert!(rt; dearer_first.dist(1) == Some(2) && dearer_first.parent_wire(1) == Some(0));
 }
 
 #[test]
@@ -71,18 +72,24 @@ fn lengths_of_0_lead_to_the_root(rt: HostRuntime) {
     assert!(rt; least.dist(3) == Some(0) && least.parent_wire(3) == Some(2));
 }
 
+/// A path of 4,096 FPGAs.
+fn longest_path(alloc: Global) -> Result<BoardGraph, AllocError>
+    ensures fpgas { IfOk result (λ graph. graph.fpgas ≡ 4096) }
+    ensures wires { IfOk result (λ graph. length graph.wires ≡ 4095) }
+{
+    let mut draft = ProblemDraft::new(alloc, 4096);
+    for f in 0..4095 {
+        draft.push_wire(Wire { a: f, b: f + 1 })?;
+    }
+    BoardGraph::of(alloc, &draft.into_problem())
+}
+
 #[test]
 fn sums_of_the_greatest_lengths_are_exact(rt: HostRuntime) {
-    let mut draft = ProblemDraft::new(rt.alloc(), 5);
-    assert!(rt; draft.push_wire(Wire { a: 0, b: 1 }).is_ok());
-    assert!(rt; draft.push_wire(Wire { a: 1, b: 2 }).is_ok());
-    assert!(rt; draft.push_wire(Wire { a: 2, b: 3 }).is_ok());
-    assert!(rt; draft.push_wire(Wire { a: 3, b: 4 }).is_ok());
-    let graph = BoardGraph::of(rt.alloc(), &draft.into_problem()).expect(&rt, "memory");
-    assert_eq!(rt; graph.fpgas(), 5);
+    let graph = longest_path(rt.alloc()).expect(&rt, "memory");
     let least = forest(rt.alloc(), &graph, 0, &Longest).expect(&rt, "memory");
     assert!(rt; least.dist(1) == Some(1 << 51) && least.parent_wire(1) == Some(0));
-    assert!(rt; least.dist(4) == Some(4 << 51) && least.parent_wire(4) == Some(3));
+    assert!(rt; least.dist(4095) == Some(4095 << 51) && least.parent_wire(4095) == Some(4094));
 }
 
 #[test]

@@ -51,7 +51,9 @@ impl<Q: Lengths> ArcLengths for BothWays<'_, Q> {
     }
 }
 
-/// For each FPGA a number that no walk from there to a goal is shorter than.
+/// A bound for each FPGA. Bounds are true where no walk from an FPGA to a goal is shorter than its bound. No
+/// law asks that of them: what a search says of the way that it found holds with any bounds, and what it
+/// says of all walks holds where the bounds are true.
 pub trait LowerBounds {
     /// How many FPGAs have a bound, counted from FPGA 0.
     ghost bounds_covered: { Self → ℕ };

@@ -1,5 +1,5 @@
 //! The way back from an FPGA to a source of a search.
-ghost use Rattle.std.specs.Prelude.{◌≡◌, ◌++◌, ◌<◌, ℕ, List, length, OnOk};
+ghost use Rattle.std.specs.Prelude.{◌≡◌, ◌++◌, ◌<◌, ℕ, List, length, OnOk, OnErr};
 ghost use Rattle.board_graph.specs.Graph.{board_of};
 ghost use Rattle.shortest_forest.specs.Labels.{IsWayBack};
 
@@ -8,7 +8,8 @@ use crate::labels::Search;
 use board_graph::BoardGraph;
 use std::alloc::AllocError;
 
-/// Appends the wires that lead from FPGA `f`, which has a label, back to a source.
+/// Appends the wires that lead from FPGA `f`, which has a label, back to a source. After want of memory
+/// the vector has what it had, and perhaps some of these wires behind that.
 pub fn way_back(
     search: &Search,
     graph: &BoardGraph,
@@ -18,8 +19,9 @@ pub fn way_back(
     requires there { f < graph.now.fpgas }
     requires count { length search.now.labels ≡ graph.now.fpgas }
     requires back { (es : List ℕ) × ((source : ℕ) × IsWayBack (board_of graph.now) search.now f es source) }
-    ensures { OnOk result ((es : List ℕ) × ((source : ℕ) × IsWayBack (board_of graph.now) search.now f es source
+    ensures way { OnOk result ((es : List ℕ) × ((source : ℕ) × IsWayBack (board_of graph.now) search.now f es source
         × (wires.new.items ≡ wires.old.items ++ es))) }
+    ensures err { OnErr result ((es : List ℕ) × (wires.new.items ≡ wires.old.items ++ es)) }
 {
     let mut at = f;
     while let Some(e) = search.wire(at) {

@@ -64,9 +64,10 @@ impl TreeBuilder {
     /// Grows a minimal tree of the terminals from `start`, one of them: the nearest of the others is joined
     /// by a least path, again and again. Some of its length, if that is below `cap`; its wires are then
     /// [`TreeBuilder::wires`]. None where walks from `start` to the terminals are together at least as long
-    /// as `cap`; with the greatest cap no wires connect the terminals. They are FPGAs of the graph that the builder was made for. The bound of an FPGA is
-    /// at most the length of every walk from there to a terminal other than `start`. The builder may be used
-    /// again after every answer.
+    /// as `cap`; with the greatest cap no wires connect the terminals. They are FPGAs of the graph that the
+    /// builder was made for. The bound of an FPGA is at most the length of every walk from there to a
+    /// terminal other than `start`. After each answer, and after want of memory, the builder may be used
+    /// again; without a tree, its wires say nothing.
     pub fn grow<Q: Lengths, B: LowerBounds>(
         &mut self,
         graph: &BoardGraph,

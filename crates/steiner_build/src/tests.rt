@@ -1,3 +1,5 @@
+ghost use Rattle.std.specs.Prelude.{◌≡◌, length, IfOk};
+
 use crate::{BuildFault, TreeBuilder, build};
 use board_graph::BoardGraph;
 use shortest_forest::{Lengths, MOST_CAP, NoBound};
@@ -22,39 +24,46 @@ impl Lengths for ByNumber {
     }
 }
 
-/// All wires have the length 0.
-struct Zero;
+/// All wires are equally long, and no longer than a wire may be.
+#[derive(Drop)]
+struct Alike(u64);
 
-impl Lengths for Zero {
-    ghost use Rattle.std.specs.Prelude.{◌^◌};
-    ghost use Rattle.std.proofs.Common.{arith};
+impl Lengths for Alike {
+    ghost use Rattle.std.specs.Prelude.{◌^◌, min};
+    ghost use Rattle.std.proofs.Common.{rules};
 
     ghost covered = { λ _. 2 ^ 16 };
 
-    ghost length = { λ _ _. 0 };
+    ghost length = { λ s _. min s.0 (2 ^ 51) };
 
-    ghost limit = { λ s e below. Prim.omega arith };
+    ghost limit = { Prim.search rules };
 
     fn len_of(&self, _wire: u32) -> u64 {
-        0
+        self.0.min(1 << 51)
     }
 }
 
-/// All wires have the length 1.
-struct One;
+/// Wire 1 is long, and wire 3 is longer than wire 0.
+struct Uneven;
 
-impl Lengths for One {
-    ghost use Rattle.std.specs.Prelude.{◌^◌};
-    ghost use Rattle.std.proofs.Common.{arith};
+impl Lengths for Uneven {
+    ghost use Rattle.std.specs.Prelude.{◌^◌, nat_eq, if◌then◌else◌};
+    ghost use Rattle.std.proofs.Common.{rules};
 
     ghost covered = { λ _. 2 ^ 16 };
 
-    ghost length = { λ _ _. 1 };
+    ghost length = { λ _ e. if nat_eq e 1 then 9 else if nat_eq e 3 then 2 else 1 };
 
-    ghost limit = { λ s e below. Prim.omega arith };
+    ghost limit = { Prim.search rules };
 
-    fn len_of(&self, _wire: u32) -> u64 {
-        1
+    fn len_of(&self, wire: u32) -> u64 {
+        if wire == 1 {
+            9
+        } else if wire == 3 {
+            2
+        } else {
+            1
+        }
     }
 }
 
@@ -85,14 +94,26 @@ fn ring(alloc: Global) -> Result<BoardGraph, AllocError> {
     BoardGraph::of(alloc, &draft.into_problem())
 }
 
+/// A path of 4,096 FPGAs.
+fn longest_path(alloc: Global) -> Result<BoardGraph, AllocError>
+    ensures fpgas { IfOk result (λ graph. graph.fpgas ≡ 4096) }
+    ensures wires { IfOk result (λ graph. length graph.wires ≡ 4095) }
+{
+    let mut draft = ProblemDraft::new(alloc, 4096);
+    for f in 0..4095 {
+        draft.push_wire(Wire { a: f, b: f + 1 })?;
+    }
+    BoardGraph::of(alloc, &draft.into_problem())
+}
+
 #[test]
 fn star_is_joined_by_its_arms(rt: HostRuntime) {
     let graph = star(rt.alloc()).expect(&rt, "memory");
     assert_eq!(rt; graph.fpgas(), 4);
     assert_eq!(rt; graph.wires(), 3);
-    let wires = build(rt.alloc(), &graph, &[1, 2, 3], &One).expect(&rt, "tree");
+    let wires = build(rt.alloc(), &graph, &[1, 2, 3], &Alike(1)).expect(&rt, "tree");
     assert!(rt; wires.as_slice() == [0, 1, 2].as_slice());
-    let free = build(rt.alloc(), &graph, &[1, 2, 3], &Zero).expect(&rt, "tree");
+    let free = build(rt.alloc(), &graph, &[1, 2, 3], &Alike(0)).expect(&rt, "tree");
     assert!(rt; free.as_slice() == [0, 1, 2].as_slice());
 }
 
@@ -101,7 +122,7 @@ fn terminals_apart_are_not_connectable(rt: HostRuntime) {
     let graph = split(rt.alloc()).expect(&rt, "memory");
     assert_eq!(rt; graph.fpgas(), 4);
     assert_eq!(rt; graph.wires(), 2);
-    let tree = build(rt.alloc(), &graph, &[0, 2], &One);
+    let tree = build(rt.alloc(), &graph, &[0, 2], &Alike(1));
     assert!(rt; tree == Err(BuildFault::NotConnectable));
 }
 
@@ -119,4 +140,24 @@ fn caps_are_passed_by_no_tree(rt: HostRuntime) {
     assert!(rt; builder.grow(&graph, &ByNumber, &NoBound, &[0, 1, 3], 0, 3) == Ok(None));
     assert!(rt; builder.grow(&graph, &ByNumber, &NoBound, &[0, 1, 2], 2, 2) == Ok(Some(1)));
     assert!(rt; builder.wires() == [0, 1].as_slice());
+}
+
+#[test]
+fn a_least_path_may_begin_with_a_longer_wire(rt: HostRuntime) {
+    let graph = ring(rt.alloc()).expect(&rt, "memory");
+    assert_eq!(rt; graph.fpgas(), 4);
+    assert_eq!(rt; graph.wires(), 4);
+    let pair = build(rt.alloc(), &graph, &[0, 2], &Uneven).expect(&rt, "tree");
+    assert!(rt; pair.as_slice() == [2, 3].as_slice());
+}
+
+#[test]
+fn the_longest_tree_has_an_exact_length(rt: HostRuntime) {
+    let graph = longest_path(rt.alloc()).expect(&rt, "memory");
+    let mut builder = TreeBuilder::new(rt.alloc(), &graph).expect(&rt, "memory");
+    let longest = Alike(1 << 51);
+    let ends = builder.grow(&graph, &longest, &NoBound, &[0, 4095], 4095, MOST_CAP);
+    assert!(rt; ends == Ok(Some(4095 << 51)));
+    let wires = builder.into_wires();
+    assert!(rt; wires.len() == 4095 && wires[0] == 0 && wires[4094] == 4094);
 }

@@ -1,4 +1,5 @@
-use Rattle.std.proofs.Common.{◌≡◌, ℕ, ◌+◌, ◌<◌, List, ◌++◌, [], ◌∷◌, Some, length, sym, ap, ◌∙◌, subst, arith}
+use Rattle.std.proofs.Common.{◌≡◌, ℕ, ◌+◌, ◌<◌, List, ◌++◌, [], ◌∷◌, Some, Result, Ok, Err, length, sym, ap, ◌∙◌, subst, arith}
+use Rattle.std.specs.Prelude.{OnErr}
 use Rattle.std.proofs.lemmas.List.{length_push}
 use Rattle.tdm_problem.proofs.Walks.{AnyWire-from_links}
 use Rattle.board_graph.specs.Graph.{board_of}
@@ -32,6 +33,14 @@ loop-e-preserved c =
     let Q : List ℕ → Type 0 = λ xs. IsFollowing board c.args.search.now c.args.f on.0 c.args.wires.now.items xs in
     (subst P (sym end'.0) (subst Q (sym c.in_ok-push.ensures.items) on.2), end'.1)
 
-pub returns : goal.returns
-returns c =
+-- what holds, holds after an error
+on-err : {T E : Type 0} (r : Result T E) (P : Type 0) → P → OnErr r P
+on-err (Ok x) P p = tt
+on-err (Err fault) P p = p
+
+pub returns-in_err-push-clause-err : goal.returns-in_err-push-clause-err
+returns-in_err-push-clause-err c = on-err c.from_residual.result _ (c.loop-e.invariant.0.taken, c.in_err-push.ensures.items ∙ c.loop-e.invariant.0.wires_are)
+
+pub returns-clause-way : goal.returns-clause-way
+returns-clause-way c =
     following_end (board_of c.args.graph.now) c.args.search.now c.args.f c.loop-e.at c.args.wires.now.items c.loop-e.wires.items c.loop-e.invariant.0 (sym c.wire.ensures ∙ c.in_default.is)

@@ -23,7 +23,7 @@ pub take_in-requires-clause-path : goal.take_in-requires-clause-path
 take_in-requires-clause-path g c =
     let board = board_of c.args.graph.now in
     let near = rw c.in-Some.is at c.in_ok-goal.ensures.found in
-    let way = c.in_ok-way_back.ensures in
+    let way = c.in_ok-way_back.ensures.way in
     let count : c.len-joined.result ≡ length c.args.wires.now.items = omega arith in
     let walk = way_back-walk board (g.Q.Lengths.length c.args.lengths.now) c.nearest_goal.new.search c.in_ok-goal.ensures.under_way.labelled c.in-Some.goal near.distance way.0 way.1.0 near.label way.1.1 in
     let P : List ℕ → Type 0 = λ path. (x : ℕ) × IsWalk board (AnyWire board) c.in-Some.goal path x in
@@ -41,7 +41,7 @@ returns-clause-joined g c =
     let board = board_of c.args.graph.now in
     let l = g.Q.Lengths.length c.args.lengths.now in
     let near = rw c.in-Some.is at c.in_ok-goal.ensures.found in
-    let way = c.in_ok-way_back.ensures in
+    let way = c.in_ok-way_back.ensures.way in
     let count : c.len-joined.result ≡ length c.args.wires.now.items = omega arith in
     let read = distance-read c.nearest_goal.new.search c.in-Some.goal near.distance near.label c.distance.result c.unwrap_or-distance.result c.distance.ensures c.unwrap_or-distance.ensures in
     let P : List ℕ → Type 0 = λ path. IsTakenIn board c.in-Some.goal path c.remove_goal.new.self c.take_in.new.search in
