@@ -2,3 +2,5 @@ pub mod Places
 pub mod Monotone
 pub mod Lowering
 pub mod Replacing
+pub mod SpentSums
+pub mod Proposals

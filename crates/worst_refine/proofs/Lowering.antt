@@ -145,11 +145,11 @@ CannotBeLowered-lowered old new n place there place_there h same positive tight 
     (positive_put new n place lower (omega (arith, same, above)) positive) now)
 
 -- the uses are of wires below a number where their wires are
-below_from_wires : (wires : ℕ) (uses : List WireUse) → All (λ w. w < wires) (wires_of uses) → All (λ u. u.wire < wires) uses
+pub below_from_wires : (wires : ℕ) (uses : List WireUse) → All (λ w. w < wires) (wires_of uses) → All (λ u. u.wire < wires) uses
 below_from_wires wires [] h = All-nil (λ u. u.wire < wires)
 below_from_wires wires (u ∷ uses) h = All-cons (λ (v : WireUse). v.wire < wires) u uses (All-head (λ w. w < wires) u.wire (wires_of uses) h) (below_from_wires wires uses (All-tail (λ w. w < wires) u.wire (wires_of uses) h))
 
-below_of_wires : (wires : ℕ) (uses : List WireUse) → All (λ u. u.wire < wires) uses → All (λ w. w < wires) (wires_of uses)
+pub below_of_wires : (wires : ℕ) (uses : List WireUse) → All (λ u. u.wire < wires) uses → All (λ w. w < wires) (wires_of uses)
 below_of_wires wires [] h = All-nil (λ w. w < wires)
 below_of_wires wires (u ∷ uses) h = All-cons (λ w. w < wires) u.wire (wires_of uses) (All-head (λ (v : WireUse). v.wire < wires) u uses h) (below_of_wires wires uses (All-tail (λ (v : WireUse). v.wire < wires) u uses h))
 

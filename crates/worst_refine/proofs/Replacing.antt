@@ -1,10 +1,10 @@
 -- What lowering one ratio does to all that the pass keeps.
-use Rattle.std.proofs.Common.{◌≡◌, ◌≢◌, ℕ, ◌+◌, ◌-◌, ◌*◌, ◌<◌, ◌≤◌, ◌^◌, List, [], ◌∷◌, ◌++◌, length, get_or, All, arith, refl, sym, ap, subst, inl, inr, ◌∙◌}
+use Rattle.std.proofs.Common.{◌≡◌, ℕ, ◌+◌, ◌-◌, ◌<◌, ◌≤◌, List, [], ◌∷◌, ◌++◌, length, All, arith, refl, sym, ap, subst, inl, inr, ◌∙◌}
 use Rattle.std.specs.Prelude.{true, cond, slice_index, slice_index_or, slice_set, count_by, ◌==◌}
 use Rattle.std.specs.Ordering.{nat_cmp}
 use Rattle.std.specs.FinMap as map
 use Rattle.std.proofs.lemmas.Bool.{cases_eq, cases_lt, eq-eqb}
-use Rattle.std.proofs.lemmas.List.{get_or_default, get_or-set_same, get_or-set_other, length-set}
+use Rattle.std.proofs.lemmas.List.{get_or-set_same, get_or-set_other, length-set}
 use Rattle.std.proofs.lemmas.List.Sums.{sum_by-cons, sum_by-append}
 use Rattle.tdm_problem.specs.Fit.{FitsLanes}
 use Rattle.tdm_problem.specs.Legal.{IsEvenRatio}
@@ -13,12 +13,11 @@ use Rattle.std.proofs.lemmas.List.{get_or-map, length-map}
 use Rattle.std.proofs.lemmas.List.Elements.{All-get_or}
 use Rattle.tdm_problem.specs.Routing.{Routing, uses_of, ratios_of, ratios_on, with_ratio}
 use Rattle.tdm_problem.specs.Tight.{wire_at, ratio_at}
-use Rattle.tdm_problem.proofs.Routings.{length-with_ratio, wires_of-with_ratio}
+use Rattle.tdm_problem.proofs.Routings.{length-with_ratio}
 use Rattle.recip_sum.specs.Counts.{items}
 use Rattle.recip_sum.specs.Items.{SameReciprocals}
-use Rattle.recip_sum.specs.LeastEven.{IsLeastEven}
 use Rattle.recip_sum.specs.Rounded.{floor_of, floor_sum}
-use Rattle.recip_sum.proofs.Same.{SameReciprocals-refl, SameReciprocals-sym, SameReciprocals-trans, SameReciprocals-cons, SameReciprocals-to_front, SameReciprocals-cancel, FitsLanes-same}
+use Rattle.recip_sum.proofs.Same.{SameReciprocals-sym, SameReciprocals-trans, SameReciprocals-cons, SameReciprocals-to_front, SameReciprocals-cancel, FitsLanes-same}
 use Rattle.recip_sum.proofs.RoundedSums.{floors-fit}
 use Rattle.solution_eval.specs.Counted.{items_at, CountsRatios}
 use Rattle.worst_refine.specs.Fitting.{HasFittingRatios}

@@ -1,4 +1,4 @@
-use Rattle.std.specs.Prelude.{◌≢◌, ℕ, ◌<◌, List, All, AllPairs}
+use Rattle.std.specs.Prelude.{◌≢◌, ℕ, ◌<◌, All, AllPairs}
 use Rattle.tdm_problem.specs.Fit.{FitsLanes}
 use Rattle.tdm_problem.specs.Legal.{IsEvenRatio}
 use Rattle.tdm_problem.specs.Routing.{Routing, wires_of, ratios_of, ratios_on}

@@ -1,3 +1,6 @@
 pub mod Lowered
 pub mod Fitting
 pub mod Steps
+pub mod TraderRoom
+pub mod Traded
+pub mod Spent

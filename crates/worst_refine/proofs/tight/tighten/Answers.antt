@@ -1,4 +1,4 @@
-use Rattle.std.proofs.Common.{◌≡◌, ℕ, length, subst, sym, ap, ◌∙◌, arith}
+use Rattle.std.proofs.Common.{◌≡◌, ℕ, length, subst, ap, ◌∙◌, arith}
 use Rattle.worst_refine.specs.Fitting.{HasFittingRatios}
 use Rattle.worst_refine.proofs.Lowering.{IsLegal-lowered}
 use Rattle.worst_refine.proofs.tight.tighten.Goals as goal

@@ -1,4 +1,4 @@
-use Rattle.std.proofs.Common.{◌≡◌, ℕ, ◌<◌, ◌≤◌, ◌+◌, length, arith, subst, sym, ap, ◌∙◌}
+use Rattle.std.proofs.Common.{ℕ, ◌≤◌, ◌+◌, length, arith, subst, ap, ◌∙◌}
 use Rattle.tdm_problem.specs.Routing.{uses_of}
 use Rattle.worst_refine.specs.Steps.{IsStep}
 use Rattle.worst_refine.proofs.Lowering.{few_uses}

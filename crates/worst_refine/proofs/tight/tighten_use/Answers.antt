@@ -1,4 +1,4 @@
-use Rattle.std.proofs.Common.{◌≡◌, ℕ, ◌<◌, ◌+◌, length, arith, subst, sym, ap}
+use Rattle.std.proofs.Common.{◌<◌, ◌+◌, length, arith, subst, sym}
 use Rattle.std.specs.Prelude.{slice_index_or, slice_set, count_by, ◌==◌}
 use Rattle.std.specs.FinMap as map
 use Rattle.std.proofs.lemmas.List.{get_or_default}

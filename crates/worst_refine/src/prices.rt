@@ -1,0 +1,107 @@
+//! Prices of nets. On a wire whose nets' prices sum to a load, the ratio of a net is about the load over its price.
+ghost use Rattle.std.specs.Prelude.{◌≡◌, ◌<◌, length, All};
+ghost use Rattle.net_groups.specs.Incidence.{IsNetGroups};
+
+use crate::numbers::{larger, within_32_bits};
+use net_groups::Incidence;
+use tdm_problem::Trees;
+
+/// About the largest price there is.
+const TOP_PRICE: u64 = 1 << 30;
+
+/// The least price at the start of a net whose number is above 0.
+const LEAST_START: u64 = 1 << 21;
+
+/// The least price at any time.
+const LEAST_PRICE: u64 = 256;
+
+/// The prices at the start: in proportion to the numbers, the largest about 2^30, but none so small that its ratios
+/// would tell of nothing but that.
+pub(crate) fn start_prices(prices: &mut [u32], numbers: &[u64])
+    requires { length prices.old ≡ length numbers.now }
+{
+    let factor = (TOP_PRICE << 20) / largest(numbers).max(1);
+    for n in 0..prices.len() {
+        prices[n] = start_price(numbers[n], factor);
+    }
+}
+
+/// The largest of the numbers, 0 of none.
+fn largest(numbers: &[u64]) -> u64 {
+    let mut most = 0;
+    for number in numbers {
+        if *number > most {
+            most = *number;
+        }
+    }
+    most
+}
+
+/// The price for a number, with the factor of 2^20ths.
+fn start_price(number: u64, factor: u64) -> u32 {
+    let least = if number == 0 {
+        LEAST_PRICE
+    } else {
+        LEAST_START
+    };
+    within_32_bits((number.wrapping_mul(factor) >> 20).max(least))
+}
+
+/// The load of each wire: the sum of the prices of the nets whose tree has it.
+pub(crate) fn take_loads(loads: &mut [u64], trees: &Trees, prices: &[u32])
+    requires there { All (λ wires. All (λ e. e < length loads.old) wires) trees.now }
+    requires paired { length prices.now ≡ length trees.now }
+{
+    for load in loads.iter_mut() {
+        *load = 0;
+    }
+    for n in 0..trees.nets() {
+        add_to_each(loads, trees.wires_of(n), u64::from(prices[n as usize]));
+    }
+}
+
+/// Adds a price to the load of each of these wires.
+fn add_to_each(loads: &mut [u64], wires: &[u32], price: u64)
+    requires { All (λ e. e < length loads.old) wires.now }
+{
+    for e in wires {
+        loads[*e as usize] = loads[*e as usize].wrapping_add(price);
+    }
+}
+
+/// Makes each net dearer or cheaper: its price is multiplied by its largest group sum over the worst one, and by a
+/// 64th at least. Then all prices are scaled, so that the largest is about 2^30 again.
+pub(crate) fn reprice(prices: &mut [u32], incidence: &Incidence, sums: &[u32], worst: u64)
+    requires paired { length prices.old ≡ length incidence.now.of_nets }
+    requires groups { length sums.now ≡ incidence.now.groups }
+{
+    let inverse = (1 << 48) / worst.max(1);
+    let mut most = 0;
+    for n in 0..incidence.nets() {
+        let own = u64::from(largest_of(sums, incidence.groups_of(n)));
+        let factor = (own.wrapping_mul(inverse) >> 32).clamp(1024, 65_536);
+        let price = u64::from(prices[n as usize]).wrapping_mul(factor) >> 16;
+        prices[n as usize] = within_32_bits(price);
+        most = larger(most, prices[n as usize]);
+    }
+    scale(prices, (TOP_PRICE << 20) / u64::from(most).max(1));
+}
+
+/// The largest sum of these groups, 0 where there are none.
+fn largest_of(sums: &[u32], groups: &[u32]) -> u32
+    requires { All (λ g. g < length sums.now) groups.now }
+{
+    let mut most = 0;
+    for g in groups {
+        most = larger(most, sums[*g as usize]);
+    }
+    most
+}
+
+/// Multiplies all prices by a factor of 2^20ths.
+fn scale(prices: &mut [u32], factor: u64) {
+    for price in prices.iter_mut() {
+        let scaled = u64::from(*price).wrapping_mul(factor) >> 20;
+        *price = within_32_bits(scaled.max(LEAST_PRICE));
+    }
+}

@@ -1,0 +1,58 @@
+//! Values of nets and sums of groups, which stop at 2^32 - 1.
+ghost use Rattle.std.specs.Prelude.{◌≡◌, ◌<◌, length, All};
+
+use crate::numbers::{larger, within_32_bits};
+use tdm_problem::{Problem, Trees};
+
+/// While ratios are not yet whole numbers they count in so many parts.
+pub(crate) const PARTS: u64 = 16;
+
+/// The value of each net at these prices, in parts: the sum over its wires of the load over its price, each at least 2.
+pub(crate) fn value_nets(values: &mut [u32], trees: &Trees, prices: &[u32], loads: &[u64])
+    requires there { All (λ wires. All (λ e. e < length loads.now) wires) trees.now }
+    requires paired { length prices.now ≡ length trees.now }
+    requires valued { length values.old ≡ length trees.now }
+{
+    for n in 0..trees.nets() {
+        let price = u64::from(prices[n as usize]).max(1);
+        let sum = sum_of_loads(loads, trees.wires_of(n), 2 * price);
+        let parts = sum.min(u64::MAX / PARTS) * PARTS / price;
+        values[n as usize] = within_32_bits(parts);
+    }
+}
+
+/// The sum of the loads of these wires, each at least so much.
+fn sum_of_loads(loads: &[u64], wires: &[u32], least: u64) -> u64
+    requires { All (λ e. e < length loads.now) wires.now }
+{
+    let mut sum = 0u64;
+    for e in wires {
+        sum = sum.saturating_add(loads[*e as usize].max(least));
+    }
+    sum
+}
+
+/// The sum of each group from the values of the nets, and the largest of them.
+pub(crate) fn sum_groups(sums: &mut [u32], problem: &Problem, values: &[u32]) -> u64
+    requires groups { length sums.old ≡ length problem.now.groups }
+    requires nets { length values.now ≡ length problem.now.nets }
+{
+    let mut worst = 0;
+    for g in 0..problem.groups() {
+        let sum = within_32_bits(sum_of(values, problem.group(g)));
+        sums[g as usize] = sum;
+        worst = larger(worst, sum);
+    }
+    u64::from(worst)
+}
+
+/// The sum of the values of these nets.
+fn sum_of(values: &[u32], nets: &[u32]) -> u64
+    requires { All (λ n. n < length values.now) nets.now }
+{
+    let mut sum = 0u64;
+    for n in nets {
+        sum = sum.wrapping_add(u64::from(values[*n as usize]));
+    }
+    sum
+}
