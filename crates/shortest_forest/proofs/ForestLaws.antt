@@ -1,6 +1,6 @@
 -- A search without goals and bounds settles all FPGAs that walks lead to, and its labels are the least lengths.
-use Rattle.std.proofs.Common.{◌≡◌, ◌≢◌, ℕ, zero, suc, ◌+◌, ◌-◌, ◌*◌, ◌^◌, ◌<◌, ◌≤◌, ◌⊎◌, Bool, true, false, List, [], ◌∷◌, ◌++◌, Option, Some, None, length, get_or, set, refl, sym, ap, ◌∙◌, subst, inl, inr, arith, get_or-set_same, get_or-set_other}
-use Rattle.std.specs.Prelude.{IfSome, IfNone, MatchOption, ◌↔◌, replicate, reverse, slice_index_or}
+use Rattle.std.proofs.Common.{◌≡◌, ◌≢◌, ℕ, ◌+◌, ◌-◌, ◌*◌, ◌^◌, ◌<◌, ◌≤◌, ◌⊎◌, Bool, true, false, List, [], ◌∷◌, Option, Some, None, length, get_or, set, refl, sym, ap, ◌∙◌, subst, inl, inr, arith, get_or-set_same, get_or-set_other}
+use Rattle.std.specs.Prelude.{IfSome, IfNone, MatchOption, ◌↔◌, replicate, reverse}
 use Rattle.std.proofs.lemmas.Bool.{cases_eq, cases_lt}
 use Rattle.std.proofs.lemmas.List.{get_or_past, length-replicate, get_or-replicate}
 use Rattle.std.proofs.lemmas.List.Sums.{sum_by-cons}
@@ -9,10 +9,10 @@ use Rattle.tdm_problem.specs.Board.{Board}
 use Rattle.tdm_problem.specs.Walk.{Links, IsWalk, AnyWire}
 use Rattle.tdm_problem.specs.Distance.{length_of, IsDistance}
 use Rattle.tdm_problem.proofs.Walks.{Links-sym, AnyWire-from_links, IsWalk-reverse}
-use Rattle.board_graph.specs.Graph.{Graph, graph_of, board_of}
+use Rattle.board_graph.specs.Graph.{Graph, board_of}
 use Rattle.shortest_forest.specs.declared.label.Label.{Label}
 use Rattle.shortest_forest.specs.Arcs.{both_ways, IsGoal}
-use Rattle.shortest_forest.specs.Labels.{Labels, label_at, distance_in, wire_in, HasLabel, IsAtLabel, IsSource, IsWaiting, IsNoShorter, IsWayBack, IsLabelled, IsWaitingOrSettled, IsUnderWay, IsNearest, AreFar}
+use Rattle.shortest_forest.specs.Labels.{Labels, label_at, distance_in, wire_in, HasLabel, IsAtLabel, IsSource, IsWaiting, IsNoShorter, IsWayBack, IsWaitingOrSettled, IsUnderWay, IsNearest, AreFar}
 use Rattle.shortest_forest.specs.Settled.{IsAllSettled}
 use Rattle.shortest_forest.specs.Reach.{Reach, distance_of, parent_of, HasNoWalk}
 use Rattle.shortest_forest.specs.LeastForest.{LeadsNearerBy, IsWayUp, HasLeast, IsLeastForest}

@@ -1,6 +1,6 @@
 -- How a search goes on: what is taken from the queue, and labels that fall along the arcs from one FPGA.
-use Rattle.std.proofs.Common.{◌≡◌, ◌≢◌, ℕ, ◌+◌, ◌*◌, ◌^◌, ◌<◌, ◌≤◌, ◌⊎◌, Bool, List, [], ◌∷◌, ◌++◌, Option, Some, None, length, get_or, set, refl, sym, ap, ◌∙◌, subst, inl, inr, arith, Contains}
-use Rattle.std.specs.Prelude.{IsPermutation, ◌↔◌, sum_by}
+use Rattle.std.proofs.Common.{◌≡◌, ◌≢◌, ℕ, ◌+◌, ◌^◌, ◌<◌, ◌≤◌, ◌⊎◌, Bool, List, [], ◌∷◌, Option, Some, None, length, get_or, set, refl, sym, ap, ◌∙◌, subst, inl, inr, arith, Contains}
+use Rattle.std.specs.Prelude.{◌↔◌, sum_by}
 use Rattle.std.specs.declared.cmp.Reverse.{Reverse}
 use Rattle.std.proofs.lemmas.Bool.{cases_eq}
 use Rattle.std.proofs.lemmas.List.{length-set, get_or_default}
@@ -15,10 +15,10 @@ use Rattle.board_graph.specs.Graph.{Graph, board_of}
 use Rattle.board_graph.specs.Neighbours.{neighbours_of}
 use Rattle.shortest_forest.specs.declared.label.Label.{Label}
 use Rattle.shortest_forest.specs.Arcs.{Arcs, IsGoal}
-use Rattle.shortest_forest.specs.Labels.{Labels, label_at, HasLabel, IsAtLabel, IsSource, IsWaiting, IsNoShorter, IsSettled, IsWayBack, IsLabelled, IsWaitingOrSettled, IsUnderWay, IsPassing, IsLowered, IsReached, IsTaken, KeepsMarks, GoesOn, label_weight, work_left}
+use Rattle.shortest_forest.specs.Labels.{Labels, label_at, HasLabel, IsAtLabel, IsSource, IsWaiting, IsNoShorter, IsSettled, IsWayBack, IsLabelled, IsWaitingOrSettled, IsUnderWay, IsPassing, IsLowered, IsReached, IsTaken, GoesOn, label_weight, work_left}
 use Rattle.shortest_forest.proofs.BaselineLaws.{other-end}
 use Rattle.shortest_forest.proofs.NeighbourLaws.{neighbour-from_links}
-use Rattle.shortest_forest.proofs.UnderWay.{distance_unique, wire_unique, not_source, contains_one, lowered_there, lowered_other, lowered_falls, lowered_no_shorter, lowered_waits, lowered_waits_or_settled, lowered_labelled}
+use Rattle.shortest_forest.proofs.UnderWay.{distance_unique, not_source, contains_one, lowered_there, lowered_other, lowered_no_shorter, lowered_waits, lowered_waits_or_settled, lowered_labelled}
 
 -- ---- going on
 

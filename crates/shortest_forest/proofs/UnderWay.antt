@@ -1,20 +1,16 @@
 -- What a search over lengths keeps, and what it knows at its end.
-use Rattle.std.proofs.Common.{◌≡◌, ◌≢◌, ℕ, zero, suc, ◌+◌, ◌<◌, ◌≤◌, ◌⊎◌, Bool, true, false, List, [], ◌∷◌, ◌++◌, Option, Some, None, length, get_or, set, refl, sym, ap, ◌∙◌, subst, inl, inr, arith, Contains, get_or-set_same, get_or-set_other}
-use Rattle.std.specs.Prelude.{IsPermutation, replicate}
+use Rattle.std.proofs.Common.{◌≡◌, ◌≢◌, ℕ, zero, suc, ◌+◌, ◌<◌, ◌≤◌, ◌⊎◌, Bool, List, [], ◌∷◌, Option, Some, None, length, get_or, refl, sym, ap, ◌∙◌, subst, inl, inr, arith, Contains, get_or-set_same, get_or-set_other}
+use Rattle.std.specs.Prelude.{replicate}
 use Rattle.std.specs.declared.cmp.Reverse.{Reverse}
 use Rattle.std.proofs.lemmas.Bool.{cases_eq, cases_lt}
 use Rattle.std.proofs.lemmas.List.{length-set, get_or_past, length-replicate, get_or-replicate}
-use Rattle.std.proofs.lemmas.List.Elements.{Contains-append_left, Contains-append_right, Contains-append_cases}
+use Rattle.std.proofs.lemmas.List.Elements.{Contains-append_right, Contains-append_cases}
 use Rattle.std.proofs.lemmas.List.Sorted.{Contains-permutation, IsPermutation-sym}
-use Rattle.std.proofs.lemmas.List.Sums.{sum_by-cons, sum_by-set}
-use Rattle.tdm_problem.specs.Board.{Board, IsWireOf}
-use Rattle.tdm_problem.specs.Walk.{Links, IsWalk, AnyWire}
-use Rattle.tdm_problem.specs.Distance.{length_of}
-use Rattle.tdm_problem.proofs.Walks.{AnyWire-from_links}
+use Rattle.tdm_problem.specs.Board.{Board}
+use Rattle.tdm_problem.specs.Walk.{Links}
 use Rattle.shortest_forest.specs.declared.label.Label.{Label}
-use Rattle.shortest_forest.specs.Arcs.{Arcs, both_ways, IsArcWalk, IsGoal, IsLowerBound}
-use Rattle.shortest_forest.specs.Labels.{Labels, label_at, distance_in, wire_in, HasLabel, IsAtLabel, IsSource, IsWaiting, IsNoShorter, IsSettled, IsWayBack, IsLabelled, IsWaitingOrSettled, IsUnderWay, IsPassing, IsLowered, IsReached}
-use Rattle.shortest_forest.proofs.BaselineLaws.{other-end}
+use Rattle.shortest_forest.specs.Arcs.{Arcs, IsArcWalk, IsGoal, IsLowerBound}
+use Rattle.shortest_forest.specs.Labels.{Labels, label_at, distance_in, wire_in, HasLabel, IsAtLabel, IsWaiting, IsNoShorter, IsWayBack, IsLabelled, IsWaitingOrSettled, IsUnderWay, IsLowered}
 use Rattle.shortest_forest.proofs.SearchLaws.{some_same}
 
 -- ---- one label

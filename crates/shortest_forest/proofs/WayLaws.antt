@@ -1,8 +1,8 @@
 -- Ways back to a source: there is one from each FPGA, it is short, and it is as long as labels say, at most.
-use Rattle.std.proofs.Common.{◌≡◌, ◌≢◌, ℕ, zero, suc, ◌+◌, ◌*◌, ◌^◌, ◌<◌, ◌≤◌, ◌⊎◌, Bool, true, false, List, [], ◌∷◌, ◌++◌, Option, Some, None, length, get_or, refl, sym, ap, ◌∙◌, subst, inl, inr, arith, eqb}
+use Rattle.std.proofs.Common.{◌≡◌, ◌≢◌, ℕ, ◌+◌, ◌<◌, ◌≤◌, ◌⊎◌, Bool, true, false, List, [], ◌∷◌, ◌++◌, Some, None, length, refl, sym, ap, ◌∙◌, subst, inl, inr, arith, eqb}
 use Rattle.std.specs.List.{list_any, IsDistinct, AllByRecursion}
 use Rattle.std.specs.Prelude.{◌||◌}
-use Rattle.std.proofs.lemmas.Bool.{cases_eq, cases_Bool, eq-eqb, ne_eqb, false≢true}
+use Rattle.std.proofs.lemmas.Bool.{cases_eq, cases_Bool, ne_eqb, false≢true}
 use Rattle.std.proofs.lemmas.List.{append_assoc, append-nil, length-append}
 use Rattle.std.proofs.lemmas.List.Sums.{sum_by-cons}
 use Rattle.std.proofs.lemmas.Map.Keys.{IsDistinct-from_apart, IsDistinct-cons}
@@ -11,8 +11,8 @@ use Rattle.tdm_problem.specs.Board.{Board}
 use Rattle.tdm_problem.specs.Walk.{Links, IsWalk, AnyWire}
 use Rattle.tdm_problem.specs.Distance.{length_of}
 use Rattle.tdm_problem.proofs.Walks.{AnyWire-from_links}
-use Rattle.shortest_forest.specs.Arcs.{Arcs, both_ways, IsArcWalk}
-use Rattle.shortest_forest.specs.Labels.{Labels, label_at, wire_in, HasLabel, IsAtLabel, IsSource, IsWayBack, IsLabelled}
+use Rattle.shortest_forest.specs.Arcs.{both_ways, IsArcWalk}
+use Rattle.shortest_forest.specs.Labels.{Labels, label_at, wire_in, IsAtLabel, IsSource, IsWayBack, IsLabelled}
 use Rattle.shortest_forest.proofs.BaselineLaws.{other-end}
 use Rattle.shortest_forest.proofs.SearchLaws.{some_same}
 use Rattle.shortest_forest.proofs.UnderWay.{distance_unique, wire_unique, not_source, label_below}

@@ -1,21 +1,20 @@
 -- What a whole tree keeps, on each board that has the graph.
-use Rattle.std.proofs.Common.{◌≡◌, ◌≢◌, ◌⊎◌, ℕ, Bool, Option, Some, None, Result, Ok, Err, ◌+◌, ◌-◌, ◌*◌, ◌^◌, ◌<◌, ◌≤◌, List, [], ◌∷◌, length, refl, sym, ap, ◌∙◌, subst, inl, inr, ⊎_elim, arith}
+use Rattle.std.proofs.Common.{◌≡◌, ◌≢◌, ℕ, Bool, Option, Some, None, Result, Ok, Err, ◌+◌, ◌-◌, ◌*◌, ◌^◌, ◌<◌, ◌≤◌, List, [], ◌∷◌, sym, ap, ◌∙◌, arith}
 use Rattle.std.specs.Prelude.{All, Contains, IfOk, IfSome, IfNone}
 use Rattle.std.specs.Ordering.{nat_cmp}
 use Rattle.std.specs.List.Sorted.{IsPermutation, IsSorted, IsStrictlyIncreasing}
 use Rattle.std.proofs.lemmas.List.Elements.{All-nil, All-cons, All-contains}
 use Rattle.std.proofs.lemmas.List.Sorted.{All-permutation, IsPermutation-trans, sum_by-IsPermutation}
 use Rattle.tdm_problem.specs.Board.{Board}
-use Rattle.tdm_problem.specs.Walk.{Links, IsWalk, AnyWire, Joins, IsMinimalTree, IsConnectable}
+use Rattle.tdm_problem.specs.Walk.{Links, IsWalk, AnyWire, IsMinimalTree, IsConnectable}
 use Rattle.tdm_problem.specs.Distance.{length_of}
-use Rattle.board_graph.specs.Graph.{Graph, IsGraph, graph_of, board_of}
-use Rattle.shortest_forest.specs.Arcs.{both_ways, IsArcWalk, IsGoal, IsLowerBound}
-use Rattle.shortest_forest.specs.Labels.{Labels, IsSource}
+use Rattle.board_graph.specs.Graph.{Graph, graph_of, board_of}
+use Rattle.shortest_forest.specs.Arcs.{both_ways, IsLowerBound}
+use Rattle.shortest_forest.specs.Labels.{Labels}
 use Rattle.shortest_forest.proofs.ClimbLaws.{sorted_rising}
-use Rattle.shortest_forest.proofs.SameBoard.{Links-same, IsConnectable-same}
+use Rattle.shortest_forest.proofs.SameBoard.{Links-same}
 use Rattle.steiner_build.specs.Building.{IsBelowWays, IsWithinWalks, IsSomeBeyond}
-use Rattle.steiner_build.specs.Joining.{AreOthers, HasNoGoals, IsJoined, IsJoining}
-use Rattle.steiner_build.proofs.JoiningLaws.{tree-minimal}
+use Rattle.steiner_build.specs.Joining.{AreOthers, HasNoGoals, IsJoining}
 use Rattle.steiner_build.proofs.LengthLaws.{any-walk, walk-few, length-few}
 use Rattle.steiner_build.proofs.WayLaws.{arc_walk-to}
 

@@ -1,10 +1,9 @@
 -- Goal after goal is joined, below a cap on the whole.
-use Rattle.std.proofs.Common.{◌≡◌, ◌⊎◌, ℕ, ◌+◌, ◌-◌, ◌*◌, ◌^◌, ◌<◌, ◌≤◌, List, [], Some, None, replicate, length, refl, sym, ap, ◌∙◌, subst, inl, inr, ⊎_elim, arith, get_or, set}
-use Rattle.std.specs.Prelude.{Contains, slice_set, ◌↔◌}
+use Rattle.std.proofs.Common.{◌≡◌, ℕ, ◌+◌, ◌-◌, ◌*◌, ◌^◌, ◌<◌, ◌≤◌, List, [], Some, None, replicate, length, sym, ap, ◌∙◌, subst, inl, ⊎_elim, arith}
+use Rattle.std.specs.Prelude.{Contains, slice_set}
 use Rattle.tdm_problem.specs.Board.{Board}
-use Rattle.tdm_problem.specs.Walk.{Links, IsWalk, AnyWire}
+use Rattle.tdm_problem.specs.Walk.{Links, AnyWire}
 use Rattle.tdm_problem.specs.Distance.{length_of}
-use Rattle.shortest_forest.specs.declared.label.Label.{Label}
 use Rattle.shortest_forest.specs.Arcs.{both_ways, IsGoal, IsLowerBound}
 use Rattle.shortest_forest.specs.Labels.{Labels, IsSource, IsUnderWay}
 use Rattle.shortest_forest.proofs.UnderWay.{IsUnderWay-falls, begun_unlabelled}

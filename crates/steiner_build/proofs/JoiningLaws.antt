@@ -1,21 +1,21 @@
 -- A tree grows by the path to the nearest goal.
-use Rattle.std.proofs.Common.{◌≡◌, ◌≢◌, ◌⊎◌, ℕ, zero, suc, ◌+◌, ◌*◌, ◌^◌, ◌<◌, ◌≤◌, Bool, true, false, cond, List, [], ◌∷◌, ◌++◌, Some, None, length, refl, sym, ap, ◌∙◌, subst, inl, inr, ⊎_elim, arith, get_or, set, get_or-set_same, get_or-set_other}
-use Rattle.std.specs.Prelude.{sum_by, All, Contains, IsPermutation, slice_set, slice_index_or, ◌↔◌}
+use Rattle.std.proofs.Common.{◌≡◌, ◌≢◌, ◌⊎◌, ℕ, zero, suc, ◌+◌, ◌*◌, ◌^◌, ◌<◌, ◌≤◌, Bool, true, false, cond, List, [], ◌∷◌, ◌++◌, length, refl, sym, ap, ◌∙◌, subst, inl, inr, ⊎_elim, arith, get_or, set, get_or-set_same, get_or-set_other}
+use Rattle.std.specs.Prelude.{sum_by, All, Contains, IsPermutation, ◌↔◌}
 use Rattle.std.proofs.lemmas.Bool.{cases_lt, false≢true}
 use Rattle.std.proofs.lemmas.List.{length-set, get_or_past}
 use Rattle.std.proofs.lemmas.List.Sums.{sum_by-cons, sum_by-append, sum_by-set}
 use Rattle.std.proofs.lemmas.List.Sorted.{Contains-permutation, length_permutation, IsPermutation-trans, IsPermutation-refl, IsPermutation-sym, IsPermutation-append_comm, IsPermutation-append_left}
 use Rattle.tdm_problem.specs.Board.{Board}
-use Rattle.tdm_problem.specs.Walk.{Links, IsWalk, AnyWire, Joins, IsMinimalTree}
+use Rattle.tdm_problem.specs.Walk.{Links, AnyWire, IsMinimalTree}
 use Rattle.tdm_problem.specs.Distance.{length_of}
 use Rattle.tdm_problem.proofs.Walks.{IsWalk-wider, AnyWire-from_links}
 use Rattle.std.proofs.lemmas.List.Elements.{All-nil, All-cons, All-append}
 use Rattle.shortest_forest.specs.Arcs.{IsGoal}
 use Rattle.shortest_forest.specs.Labels.{Labels, IsSource}
 use Rattle.shortest_forest.proofs.BaselineLaws.{contains-cons}
-use Rattle.steiner_build.specs.Growth.{IsTree, IsOn, IsBranch, IsApart}
-use Rattle.steiner_build.specs.Building.{IsReachedWithin, IsWithinWalks, IsSomeBeyond}
-use Rattle.steiner_build.specs.Joining.{goal_count, HasNoGoals, AreOthers, IsTakenIn, IsWithinGoals, IsJoinedBy, IsJoined, IsSpent, IsJoining}
+use Rattle.steiner_build.specs.Growth.{IsOn, IsBranch}
+use Rattle.steiner_build.specs.Building.{IsReachedWithin, IsWithinWalks}
+use Rattle.steiner_build.specs.Joining.{goal_count, HasNoGoals, AreOthers, IsWithinGoals, IsJoinedBy, IsJoined, IsSpent, IsJoining}
 use Rattle.steiner_build.proofs.GrowthLaws.{same_or_other}
 use Rattle.steiner_build.proofs.TreeLaws.{IsTree-one, IsTree-same, IsTree-branch}
 use Rattle.steiner_build.proofs.Trails.{apart-least}

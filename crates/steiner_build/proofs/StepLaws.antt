@@ -1,5 +1,5 @@
 -- The nearest goal with its way back is a step by which the tree grows.
-use Rattle.std.proofs.Common.{◌≡◌, ◌⊎◌, ℕ, ◌+◌, ◌<◌, ◌≤◌, false, List, [], ◌∷◌, Option, Some, None, ◌++◌, ◌-◌, length, take, drop, refl, sym, ap, ◌∙◌, subst, inl, inr, ⊎_elim, arith}
+use Rattle.std.proofs.Common.{◌≡◌, ℕ, ◌≤◌, false, List, [], ◌∷◌, Option, None, ◌++◌, ◌-◌, length, take, drop, refl, sym, ap, ◌∙◌, subst, inl, inr, ⊎_elim, arith}
 use Rattle.std.specs.Prelude.{slice_set, slice_index_or, reverse, ◌↔◌}
 use Rattle.std.proofs.lemmas.List.Sums.{sum_by-append, sum_by-cons}
 use Rattle.std.proofs.lemmas.List.{reverse-append, take_rest, drop_at}
@@ -10,9 +10,7 @@ use Rattle.tdm_problem.specs.Distance.{length_of}
 use Rattle.tdm_problem.proofs.Walks.{IsWalk-reverse}
 use Rattle.shortest_forest.specs.Arcs.{both_ways, IsGoal, IsLowerBound}
 use Rattle.shortest_forest.specs.Labels.{Labels, label_at, distance_in, IsAtLabel, IsSource, IsWayBack, IsUnderWay, IsNearest, AreFar, KeepsMarks}
-use Rattle.shortest_forest.proofs.UnderWay.{distance_unique}
 use Rattle.shortest_forest.proofs.WayLaws.{way_back-walk, way_back-source, arc_walk-from_walk}
-use Rattle.steiner_build.specs.Growth.{IsOn, IsBranch}
 use Rattle.steiner_build.specs.Joining.{IsTakenIn, IsWithinGoals, IsJoinedBy}
 use Rattle.steiner_build.proofs.WayLaws.{way-branch, branch-as}
 

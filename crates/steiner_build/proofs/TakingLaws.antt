@@ -1,10 +1,9 @@
 -- The FPGAs of a path become sources, one after another.
-use Rattle.std.proofs.Common.{◌≡◌, ◌≢◌, ◌⊎◌, ℕ, zero, suc, ◌<◌, List, [], ◌∷◌, Option, Some, None, length, refl, sym, ap, ◌∙◌, subst, inl, inr, ⊎_elim, arith, ◌+◌, ◌≤◌, drop, drop-cons, add-one, get_or, set, get_or-set_same, get_or-set_other}
-use Rattle.std.specs.Prelude.{slice_set, slice_get, ◌↔◌, All}
+use Rattle.std.proofs.Common.{◌≡◌, ◌≢◌, ◌⊎◌, ℕ, ◌<◌, List, [], ◌∷◌, Some, None, length, refl, sym, ap, ◌∙◌, subst, inl, inr, ⊎_elim, ◌+◌, ◌≤◌, drop, drop-cons, add-one, get_or, set, get_or-set_same, get_or-set_other}
+use Rattle.std.specs.Prelude.{slice_set, ◌↔◌, All}
 use Rattle.std.proofs.lemmas.List.{length-set, drop_all}
 use Rattle.tdm_problem.specs.Board.{Board, IsWireOf}
 use Rattle.tdm_problem.specs.Walk.{Links, IsWalk, AnyWire}
-use Rattle.shortest_forest.specs.declared.label.Label.{Label}
 use Rattle.shortest_forest.specs.Labels.{Labels, IsSource, StaysUnderWay}
 use Rattle.tdm_problem.proofs.Walks.{Links-sym}
 use Rattle.shortest_forest.proofs.BaselineLaws.{other-end}

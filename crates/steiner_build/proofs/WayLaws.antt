@@ -1,8 +1,8 @@
 -- The way back of a search is a path that the tree may grow by.
-use Rattle.std.proofs.Common.{◌≡◌, ℕ, ◌+◌, ◌≤◌, List, [], ◌∷◌, length, ap, subst, inl, inr, arith}
+use Rattle.std.proofs.Common.{◌≡◌, ℕ, ◌≤◌, List, [], ◌∷◌, length, ap, subst, inl, inr, arith}
 use Rattle.std.proofs.lemmas.List.Sums.{sum_by-cons}
 use Rattle.tdm_problem.specs.Board.{Board}
-use Rattle.tdm_problem.specs.Walk.{Links, IsWalk, AnyWire}
+use Rattle.tdm_problem.specs.Walk.{IsWalk, AnyWire}
 use Rattle.tdm_problem.specs.Distance.{length_of}
 use Rattle.tdm_problem.proofs.Walks.{AnyWire-from_links}
 use Rattle.shortest_forest.specs.Arcs.{both_ways, IsArcWalk}

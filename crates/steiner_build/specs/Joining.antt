@@ -1,5 +1,5 @@
 -- How a tree grows while a search is under way: its sources are the FPGAs that the tree reaches.
-use Rattle.std.specs.Prelude.{◌≡◌, ◌≢◌, ℕ, ◌≤◌, ◌⊎◌, ◌++◌, ◌↔◌, Bool, false, cond, List, [], ◌∷◌, sum_by, slice_set, slice_index_or, All, Contains, IsPermutation}
+use Rattle.std.specs.Prelude.{◌≡◌, ◌≢◌, ℕ, ◌≤◌, ◌⊎◌, ◌++◌, ◌↔◌, Bool, false, cond, List, sum_by, slice_set, slice_index_or, All, Contains, IsPermutation}
 use Rattle.tdm_problem.specs.Board.{Board}
 use Rattle.tdm_problem.specs.Walk.{IsWalk, AnyWire}
 use Rattle.tdm_problem.specs.Distance.{length_of}

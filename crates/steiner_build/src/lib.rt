@@ -3,6 +3,8 @@
 #![tactic(auto)]
 
 mod builder;
+#[cfg(test)]
+mod definitions;
 mod fault;
 mod joining;
 mod laws;

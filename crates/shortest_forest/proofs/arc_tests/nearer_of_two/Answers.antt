@@ -1,6 +1,5 @@
-use Rattle.std.proofs.Common.{ℕ, Option, None, false, length, sym, ap, ◌∙◌}
+use Rattle.std.proofs.Common.{Option, None, false, length, ap, ◌∙◌}
 use Rattle.std.proofs.lemmas.List.{length-replicate}
-use Rattle.board_graph.specs.Graph.{board_of}
 use Rattle.shortest_forest.specs.declared.label.Label.{Label}
 use Rattle.shortest_forest.proofs.UnderWay.{begun_unlabelled}
 use Rattle.shortest_forest.proofs.arc_tests.nearer_of_two.Goals as goal

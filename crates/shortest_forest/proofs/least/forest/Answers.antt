@@ -1,4 +1,4 @@
-use Rattle.std.proofs.Common.{◌≡◌, ℕ, ◌+◌, ◌<◌, length, refl, sym, ap, ◌∙◌, subst, arith}
+use Rattle.std.proofs.Common.{refl}
 use Rattle.board_graph.specs.Graph.{board_of}
 use Rattle.shortest_forest.specs.Reach.{Reach}
 use Rattle.shortest_forest.proofs.HopLaws.{Links-below}

@@ -1,6 +1,5 @@
-use Rattle.std.proofs.Common.{◌≡◌, ◌<◌, ◌≤◌, ℕ, true, false, length, refl, sym, ap, ◌∙◌, arith}
+use Rattle.std.proofs.Common.{◌≡◌, true, false, length, refl, sym, ap, ◌∙◌, arith}
 use Rattle.board_graph.specs.Graph.{board_of}
-use Rattle.shortest_forest.specs.Labels.{IsAtLabel}
 use Rattle.shortest_forest.proofs.Passing.{IsUnderWay-taken, IsPassing-taken, taken_work, GoesOn-taken, GoesOn-trans}
 use Rattle.shortest_forest.proofs.NearestLaws.{front_waits, AreFar-made, IsNearest-made}
 use Rattle.shortest_forest.proofs.nearest.nearest_goal.Goals as goal

@@ -1,5 +1,4 @@
-use Rattle.std.proofs.Common.{◌≡◌, ℕ, ◌+◌, ◌<◌, List, length, get_or, sym, ap, ◌∙◌, subst, arith}
-use Rattle.tdm_problem.specs.Walk.{Links}
+use Rattle.std.proofs.Common.{ℕ, ◌+◌, ◌<◌, List, length, get_or, sym, ap, subst, arith}
 use Rattle.tdm_problem.proofs.Walks.{AnyWire-from_links}
 use Rattle.board_graph.specs.declared.neighbour.Neighbour.{Neighbour}
 use Rattle.board_graph.specs.Graph.{board_of}
@@ -7,7 +6,7 @@ use Rattle.board_graph.specs.Neighbours.{neighbours_of}
 use Rattle.shortest_forest.specs.Labels.{IsReached}
 use Rattle.shortest_forest.proofs.HopLaws.{Links-below}
 use Rattle.shortest_forest.proofs.NeighbourLaws.{Links-from_neighbour}
-use Rattle.shortest_forest.proofs.Passing.{IsPassingOn, IsPassingOn-start, IsPassingOn-more, IsUnderWay-passed}
+use Rattle.shortest_forest.proofs.Passing.{IsPassingOn-start, IsPassingOn-more, IsUnderWay-passed}
 use Rattle.shortest_forest.proofs.nearest.pass.Goals as goal
 
 pub loop-x-init : goal.loop-x-init

@@ -1,9 +1,8 @@
-use Rattle.std.proofs.Common.{◌≡◌, ℕ, ◌+◌, ◌<◌, List, ◌++◌, [], ◌∷◌, Some, Result, Ok, Err, length, sym, ap, ◌∙◌, subst, arith}
+use Rattle.std.proofs.Common.{◌≡◌, ℕ, ◌+◌, List, Result, Ok, Err, length, sym, ap, ◌∙◌, subst, arith}
 use Rattle.std.specs.Prelude.{OnErr}
 use Rattle.std.proofs.lemmas.List.{length_push}
 use Rattle.tdm_problem.proofs.Walks.{AnyWire-from_links}
 use Rattle.board_graph.specs.Graph.{board_of}
-use Rattle.shortest_forest.specs.Labels.{wire_in, label_at}
 use Rattle.shortest_forest.proofs.ClimbLaws.{read_other}
 use Rattle.shortest_forest.proofs.WayLaws.{IsFollowing, IsFollowing-start, following_wire, following_end, following_short}
 use Rattle.shortest_forest.proofs.way.way_back.Goals as goal

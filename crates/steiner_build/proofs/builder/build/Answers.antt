@@ -1,11 +1,10 @@
-use Rattle.std.proofs.Common.{◌≡◌, ℕ, List, [], ◌∷◌, ◌-◌, ◌^◌, ◌<◌, ◌≤◌, arith, sym, ap, ◌∙◌, subst, length, slice_index}
+use Rattle.std.proofs.Common.{ℕ, List, ◌<◌, arith, sym, ap, ◌∙◌, subst, length, slice_index}
 use Rattle.std.specs.Prelude.{All}
 use Rattle.std.proofs.lemmas.List.Elements.{Contains-get_or}
-use Rattle.tdm_problem.specs.Board.{Board}
 use Rattle.tdm_problem.specs.Walk.{IsMinimalTree}
 use Rattle.tdm_problem.specs.Distance.{length_of}
-use Rattle.board_graph.specs.Graph.{Graph, board_of, graph_of}
-use Rattle.steiner_build.specs.Building.{IsWithinWalks, IsWithinDistances, IsWithinJoining}
+use Rattle.board_graph.specs.Graph.{Graph, board_of}
+use Rattle.steiner_build.specs.Building.{IsWithinWalks, IsWithinJoining}
 use Rattle.steiner_build.proofs.LengthLaws.{IsWithinDistances-from_walks, IsWithinJoining-from_first}
 use Rattle.steiner_build.proofs.BuildLaws.{connectable-tree}
 use Rattle.steiner_build.proofs.builder.build.Goals as goal

@@ -1,4 +1,4 @@
-use Rattle.std.proofs.Common.{◌≡◌, ℕ, List, [], ◌<◌, arith, sym, subst, length}
+use Rattle.std.proofs.Common.{ℕ, List, ◌<◌, arith, sym, subst, length}
 use Rattle.board_graph.specs.Graph.{board_of}
 use Rattle.shortest_forest.specs.Arcs.{both_ways}
 use Rattle.steiner_build.proofs.ComposingLaws.{IsComposing, IsComposing-start, IsComposing-more, composing-lawful, composing-far, composing-beyond, composing-done}

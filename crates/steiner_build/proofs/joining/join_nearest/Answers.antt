@@ -1,7 +1,5 @@
-use Rattle.std.proofs.Common.{◌≡◌, ℕ, List, length, arith, sym, ap, ◌∙◌, subst}
-use Rattle.std.specs.Option.{unwrap_or}
+use Rattle.std.proofs.Common.{◌≡◌, ℕ, List, length, arith, sym, ◌∙◌, subst}
 use Rattle.board_graph.specs.Graph.{board_of}
-use Rattle.shortest_forest.specs.Labels.{distance_in}
 use Rattle.shortest_forest.specs.Arcs.{both_ways}
 use Rattle.shortest_forest.proofs.WayLaws.{way_back-walk}
 use Rattle.steiner_build.specs.Joining.{IsTakenIn, IsJoinedBy}

@@ -1,5 +1,5 @@
-use Rattle.std.proofs.Common.{◌≡◌, ◌<◌, length, arith, inl, inr, sym, ◌∙◌, get_or}
-use Rattle.steiner_build.proofs.MarkLaws.{IsMarking, IsMarking-start, IsMarking-pass, IsMarking-more, AreOthers-marking}
+use Rattle.std.proofs.Common.{arith, sym, ◌∙◌}
+use Rattle.steiner_build.proofs.MarkLaws.{IsMarking-start, IsMarking-more, AreOthers-marking}
 use Rattle.steiner_build.proofs.joining.mark.Goals as goal
 
 pub loop-t-init : goal.loop-t-init

@@ -1,4 +1,4 @@
-use Rattle.std.proofs.Common.{◌≡◌, ℕ, List, ◌∷◌, ◌+◌, ◌<◌, length, drop, get_or, sym, ap, ◌∙◌, subst, arith}
+use Rattle.std.proofs.Common.{ℕ, List, ◌∷◌, ◌+◌, ◌<◌, length, drop, get_or, sym, subst, arith}
 use Rattle.tdm_problem.specs.Board.{Board}
 use Rattle.shortest_forest.specs.Labels.{Labels}
 use Rattle.board_graph.specs.Graph.{board_of}

@@ -1,4 +1,4 @@
-use Rattle.std.proofs.Common.{◌≡◌, ◌<◌, length, arith}
+use Rattle.std.proofs.Common.{arith}
 use Rattle.steiner_build.proofs.MarkLaws.{IsUnmarking-start, IsUnmarking-more, none-unmarked}
 use Rattle.steiner_build.proofs.joining.unmark.Goals as goal
 

@@ -3,7 +3,6 @@ use Rattle.std.proofs.lemmas.Bool.{cases_eq}
 use Rattle.std.proofs.lemmas.List.{length-set}
 use Rattle.shortest_forest.specs.Arcs.{IsGoal}
 use Rattle.shortest_forest.specs.Labels.{IsAtLabel, label_at}
-use Rattle.std.proofs.Common.{subst, None}
 use Rattle.shortest_forest.proofs.UnderWay.{IsUnderWay-goals, unlabelled}
 use Rattle.shortest_forest.proofs.labels.Search.add_goal.Goals as goal
 

@@ -1,4 +1,4 @@
-use Rattle.std.proofs.Common.{◌≡◌, ◌∷◌, List, Option, Some, ℕ, ap, set, sym, subst, ◌∙◌}
+use Rattle.std.proofs.Common.{◌∷◌, List, Option, Some, ℕ, ap, set, subst, ◌∙◌}
 use Rattle.std.specs.Prelude.{IsPermutation}
 use Rattle.std.specs.BinaryHeap.{heap_items}
 use Rattle.std.specs.declared.cmp.Reverse.{Reverse}

@@ -1,4 +1,4 @@
-use Rattle.std.proofs.Common.{◌≡◌, List, Option, None, length, ap, sym, ◌∙◌}
+use Rattle.std.proofs.Common.{None, length, ap, sym, ◌∙◌}
 use Rattle.std.specs.Prelude.{replicate}
 use Rattle.std.proofs.lemmas.List.{length-map}
 use Rattle.shortest_forest.specs.Labels.{Labels}
