@@ -4,3 +4,4 @@ pub mod Lowering
 pub mod Replacing
 pub mod SpentSums
 pub mod Proposals
+pub mod SureSteps

@@ -9,10 +9,12 @@ mod proposed;
 mod rounding;
 mod spending;
 mod sums;
+mod sure;
 mod tight;
 mod trader;
 mod trading;
 mod wire_rounding;
+mod worst_groups;
 
 pub use tight::tighten;
 pub use trading::{trade, trade_from};

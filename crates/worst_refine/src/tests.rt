@@ -5,6 +5,7 @@ ghost use Rattle.tdm_problem.specs.declared.solution.WireUse.{WireUse};
 ghost use Rattle.tdm_problem.specs.Routing.{IsFor};
 
 use super::*;
+use net_groups::Incidence;
 use solution_eval::{Verdict, judge};
 use std::alloc::{AllocError, Global};
 use std::test::Fail;
@@ -27,7 +28,7 @@ fn one_net_and_two_wires(alloc: Global) -> Result<Problem, AllocError>
 }
 
 /// Two FPGAs and one wire between them, with three nets in one group.
-fn three_nets(alloc: Global) -> Result<Problem, AllocError>
+pub(crate) fn three_nets(alloc: Global) -> Result<Problem, AllocError>
     ensures { IfOk result (λ p. p ≡ record {
       fpgas = 2;
       wires = record { a = 0; b = 1 } ∷ [];
@@ -85,7 +86,8 @@ fn tighten_if_legal(
     requires { IsFor problem.now solution.old }
 {
     if let Verdict::Legal { .. } = judge(alloc, problem, solution)? {
-        tighten(alloc, problem, solution)?;
+        let incidence = Incidence::of(alloc, problem)?;
+        tighten(alloc, problem, &incidence, solution)?;
         return Ok(true);
     }
     Ok(false)

@@ -5,6 +5,7 @@ ghost use Rattle.tdm_problem.specs.Legal.{IsLegal, IsEvenRatio};
 ghost use Rattle.tdm_problem.specs.Limits.{most_wires};
 ghost use Rattle.tdm_problem.specs.Routing.{uses_of};
 ghost use Rattle.tdm_problem.specs.Tight.{IsTight};
+ghost use Rattle.net_groups.specs.Incidence.{IsIncidenceOf};
 ghost use Rattle.recip_sum.specs.Counts.{items};
 ghost use Rattle.recip_sum.specs.Rounded.{floor_sum};
 ghost use Rattle.solution_eval.specs.Counted.{CountsRatios};
@@ -12,6 +13,8 @@ ghost use Rattle.worst_refine.specs.Fitting.{HasFittingRatios};
 ghost use Rattle.worst_refine.specs.Lowered.{IsLowered};
 ghost use Rattle.worst_refine.specs.Steps.{CannotBeLowered, FloorsTell, IsReplaced, IsStep};
 
+use crate::sure::lower_surely;
+use net_groups::Incidence;
 use recip_sum::{Counts, floor_of_reciprocal, items_are_counted};
 use solution_eval::count_ratios;
 use std::alloc::{AllocError, Global};
@@ -20,16 +23,25 @@ use tdm_problem::{MAX_WIRES, Problem, Solution};
 /// Lowers ratios of a legal solution until none above 2 can be lowered by 2. The solution stays legal, each net
 /// keeps its wires, and no ratio rises.
 ///
-/// One pass over all uses is enough: a ratio that is lowered leaves less room for the others, so that one which could
-/// not be lowered still cannot. A use is passed over where the reciprocals rounded down tell that its ratio is the least.
+/// A cheap pass comes first, in which ratios of nets of the worst groups are lowered before others, as far as reciprocals
+/// rounded up leave room. One exact pass over all uses is then enough: a ratio that is lowered leaves less room for the
+/// others, so that one which could not be lowered still cannot. A use is passed over where the reciprocals rounded
+/// down tell that its ratio is the least.
 ///
 /// The only error is want of memory, after which all of this holds but that none can be lowered.
-pub fn tighten(alloc: Global, problem: &Problem, solution: &mut Solution) -> Result<(), AllocError>
+pub fn tighten(
+    alloc: Global,
+    problem: &Problem,
+    incidence: &Incidence,
+    solution: &mut Solution,
+) -> Result<(), AllocError>
+    requires incidence { IsIncidenceOf problem.now incidence.now }
     requires legal { IsLegal problem.now solution.old }
     ensures legal { IsLegal problem.now solution.new }
     ensures lowered { IsLowered solution.old solution.new }
     ensures tight { OnOk result (IsTight problem.now solution.new) }
 {
+    lower_surely(alloc, problem, incidence, solution)?;
     prove!(problem.wires() <= MAX_WIRES);
     let mut counts = count_ratios(alloc, problem, solution)?;
     tighten_nets(&mut counts, solution)

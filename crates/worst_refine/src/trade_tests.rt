@@ -3,14 +3,17 @@ ghost use Rattle.std.specs.Prelude.{◌≡◌, ◌≤◌, [], ◌∷◌, length,
 ghost use Rattle.tdm_problem.specs.declared.wire.Wire.{Wire};
 ghost use Rattle.tdm_problem.specs.declared.solution.WireUse.{WireUse};
 ghost use Rattle.tdm_problem.specs.Routing.{IsFor};
+ghost use Rattle.tdm_problem.specs.Trees.{AreTreesFor};
+ghost use Rattle.even_legalise.specs.Uniform.{JoinsEachNet};
 ghost use Rattle.worst_refine.specs.Traded.{HasSmallRatios};
 
-use super::trade;
+use super::tests::three_nets;
+use super::{trade, trade_from};
 use net_groups::Incidence;
-use solution_eval::{Verdict, judge};
+use solution_eval::{Verdict, judge, value};
 use std::alloc::{AllocError, Global};
 use std::test::Fail;
-use tdm_problem::{Problem, ProblemDraft, Solution, Wire, WireUse};
+use tdm_problem::{Problem, ProblemDraft, Solution, Trees, Wire, WireUse};
 
 /// Two FPGAs and one wire between them, with five nets, of which the first four are in one group and the last in another.
 fn five_nets(alloc: Global) -> Result<Problem, AllocError>
@@ -66,6 +69,47 @@ fn traded_value(
         }
     }
     Ok(0)
+}
+
+/// The same tree, wire 0, for each of three nets.
+fn wire_for_three_nets(alloc: Global) -> Result<Trees, AllocError>
+    ensures { IfOk result (λ t. t ≡ (0 ∷ []) ∷ (0 ∷ []) ∷ (0 ∷ []) ∷ []) }
+{
+    let mut trees = Trees::new(alloc);
+    trees.push_net(&[0])?;
+    trees.push_net(&[0])?;
+    trees.push_net(&[0])?;
+    Ok(trees)
+}
+
+/// The value of what the first trade finds for these trees below `best`, or 0 where it finds nothing.
+fn value_from(
+    alloc: Global,
+    problem: &Problem,
+    trees: &Trees,
+    s: &[u64],
+    best: u128,
+) -> Result<u128, AllocError>
+    requires trees_for { AreTreesFor problem.now trees.now }
+    requires joined { JoinsEachNet problem.now trees.now }
+    requires paired { length s.now ≡ length problem.now.nets }
+{
+    let incidence = Incidence::of(alloc, problem)?;
+    match trade_from(alloc, problem, &incidence, trees, s, best, true)? {
+        Some(better) => value(alloc, problem, &better),
+        None => Ok(0),
+    }
+}
+
+#[test]
+fn a_trade_from_numbers_is_below_the_best_or_nothing(rt: HostRuntime) -> Result<(), Fail> {
+    let problem = three_nets(rt.alloc())?;
+    let trees = wire_for_three_nets(rt.alloc())?;
+    let below_12 = value_from(rt.alloc(), &problem, &trees, &[1024, 1024, 1024], 12)?;
+    assert_eq!(rt; below_12, 10);
+    let below_10 = value_from(rt.alloc(), &problem, &trees, &[1024, 1024, 1024], 10)?;
+    assert_eq!(rt; below_10, 0);
+    Ok(())
 }
 
 #[test]
