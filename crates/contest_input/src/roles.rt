@@ -3,7 +3,7 @@ ghost use Rattle.std.specs.Prelude.{◌≡◌, ◌+◌, ◌<◌, ◌≤◌, ◌^
 ghost use Rattle.tdm_lines.specs.Lines.{Line};
 ghost use Rattle.tdm_lines.specs.SoFar.{ended_line};
 ghost use Rattle.tdm_problem.specs.Limits.{most_wires, most_nets, most_groups};
-ghost use Rattle.contest_input.specs.BoardText.{board_of_lines};
+ghost use Rattle.contest_input.specs.BoardText.{board_of_lines, largest_number};
 ghost use Rattle.contest_input.specs.Roles.{Holds, IsFine, IsInWires, IsInNets, IsInGroups, Reads, said_in, line_kind, in_wires, in_nets, in_groups};
 ghost use Rattle.tdm_lines.specs.Written.{plain_line};
 ghost use Rattle.contest_input.specs.Faults.{header_fault, wire_fault, net_fault, group_fault};
@@ -296,6 +296,10 @@ impl BoardState {
 }
 
 impl Grammar for BoardState {
+    ghost largest = { largest_number };
+
+    ghost sizes = { λ _. [] };
+
     ghost fine = { IsFine };
 
     ghost reads = { Reads };

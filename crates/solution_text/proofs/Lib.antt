@@ -1,6 +1,6 @@
 pub mod Sorting
 pub mod Marking
-pub mod ReadingOn
+pub mod RoleLaws
 pub mod ForBoard
 pub mod Uses
 pub mod ReadsBack

@@ -15,7 +15,7 @@ use Rattle.solution_text.specs.Text.{use_line, net_text, solution_text}
 use Rattle.solution_text.specs.Reading.{largest_number, by_wire, uses_from, net_from, nets_from, solution_of}
 use Rattle.solution_text.specs.Sayable.{IsSayable}
 use Rattle.solution_text.proofs.Sorting.{by_wire-at_rising}
-use Rattle.solution_text.proofs.ReadingOn.{whole_is}
+use Rattle.solution_text.proofs.RoleLaws.{whole_is}
 use Rattle.solution_text.proofs.Uses.{AreSayable, AreSayable-head, AreSayable-tail, are_sayable, so_few_uses}
 
 -- each use's wire is above those of the earlier uses

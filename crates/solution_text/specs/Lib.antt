@@ -3,5 +3,6 @@ pub mod Text
 pub mod Reading
 pub mod Fault
 pub mod Steps
+pub mod Roles
 pub mod Reader
 pub mod Sayable

@@ -1,18 +1,10 @@
--- How a function that reads answers to what the lines say.
-use Rattle.std.specs.Prelude.{◌≡◌, ℕ, ◌<◌, ◌≤◌, nat_eq, ◌==◌, List, ◌++◌, length, slice_index, Result, Ok, Err, All}
+-- How nets and their uses are put together while a text is read.
+use Rattle.std.specs.Prelude.{◌≡◌, ℕ, ◌<◌, ◌≤◌, nat_eq, ◌==◌, List, ◌++◌, length, slice_index, Result, Ok, All}
 use Rattle.std.specs.List.{list_any, IsDistinct}
 use Rattle.tdm_problem.specs.declared.solution.WireUse.{WireUse}
 use Rattle.tdm_problem.specs.Routing.{Routing, wires_of}
 use Rattle.solution_text.specs.declared.refusal.SolutionRefusal.{SolutionRefusal}
-use Rattle.solution_text.specs.declared.refusal.SolutionFault.{SolutionFault}
-use Rattle.solution_text.specs.Fault.{IsFaultOf}
 use Rattle.solution_text.specs.Reading.{◌>>=◌}
-
--- reading comes to what it comes to after this answer, or the answer is the fault
-abbrev pub Leads : {X A : Type 0} → Result X SolutionFault → Result A SolutionRefusal
-    → (X → Result A SolutionRefusal) → Type 0
-Leads (Ok x) read after = read ≡ after x
-Leads (Err fault) read after = IsFaultOf fault read
 
 -- these nets, and then those that are read
 abbrev pub with_nets : Routing → Result Routing SolutionRefusal → Result Routing SolutionRefusal

@@ -8,12 +8,16 @@
 mod definitions;
 mod laws;
 mod read;
+mod reader;
 mod refusal;
+mod said;
+mod state;
 #[cfg(test)]
 mod tests;
 mod write;
 
 pub use laws::{cut_text_says_the_same, reads_back, text_is_short};
 pub use read::{MAX_SOLUTION_BYTES, read_solution};
+pub use reader::SolutionReader;
 pub use refusal::{SolutionFault, SolutionKind, SolutionRefusal};
 pub use write::write_solution;

@@ -1,6 +1,7 @@
 //! Solutions of small boards, written and read.
 use crate::{
-    MAX_SOLUTION_BYTES, SolutionFault, SolutionKind, SolutionRefusal, read_solution, write_solution,
+    MAX_SOLUTION_BYTES, SolutionFault, SolutionKind, SolutionReader, SolutionRefusal,
+    read_solution, write_solution,
 };
 use std::alloc::Global;
 use std::process::Abort;
@@ -68,6 +69,67 @@ fn refuses_the_first_line_at_fault(rt: HostRuntime) -> Result<(), Fail> {
     ] {
         let refusal = SolutionRefusal { kind, line };
         let answer = read(&rt, rt.alloc(), text, &problem).err();
+        assert!(rt;
+            answer == Some(SolutionFault::Refused(refusal)),
+            "{refusal:?}"
+        );
+    }
+    Ok(())
+}
+
+/// Reads a short text that is fed in pieces of this length, with an empty piece before each.
+fn read_in_pieces(
+    rt: &impl Abort,
+    alloc: Global,
+    text: &[u8],
+    length: usize,
+    problem: &Problem,
+) -> Result<Solution, SolutionFault> {
+    let mut reader = SolutionReader::new(alloc, problem);
+    assert!(rt; length > 0);
+    for piece in text.chunks(length) {
+        assert!(rt; reader.fed() < 100 && piece.len() < 100);
+        reader.feed(&[])?;
+        reader.feed(piece)?;
+    }
+    assert!(rt; reader.fed() == text.len() as u64);
+    reader.end()
+}
+
+#[test]
+fn cuts_of_a_text_do_not_matter(rt: HostRuntime) -> Result<(), Fail> {
+    let problem = board(rt.alloc())?;
+    for length in [1usize, 2, 7, 18] {
+        let text = b"2\n1 2\n0 4294967295\n".as_slice();
+        let Ok(solution) = read_in_pieces(&rt, rt.alloc(), text, length, &problem) else {
+            assert!(rt; false, "refused");
+            continue;
+        };
+        assert_eq!(rt; solution.nets(), 1);
+        let uses = solution.uses(0);
+        assert_eq!(rt; uses.len(), 2);
+        assert_eq!(rt; (uses[0].wire, uses[0].ratio), (0, 4_294_967_295));
+        assert_eq!(rt; (uses[1].wire, uses[1].ratio), (1, 2));
+    }
+    Ok(())
+}
+
+#[test]
+fn the_first_fault_is_told_of_a_text_that_comes_byte_by_byte(rt: HostRuntime) -> Result<(), Fail> {
+    let problem = board(rt.alloc())?;
+    for (text, kind, line) in [
+        (
+            b"1\n0 4294967296\nx\n".as_slice(),
+            SolutionKind::NumberTooLarge,
+            2,
+        ),
+        (b"0 0 0 0 0 0 0 0 0 x", SolutionKind::BadNumber, 1),
+        (b"0 0 0 0 0 0 0 0 0 0", SolutionKind::WrongCount, 1),
+        (b"1\n", SolutionKind::MissingLine, 2),
+        (b"0\n0", SolutionKind::ExtraLine, 2),
+    ] {
+        let refusal = SolutionRefusal { kind, line };
+        let answer = read_in_pieces(&rt, rt.alloc(), text, 1, &problem).err();
         assert!(rt;
             answer == Some(SolutionFault::Refused(refusal)),
             "{refusal:?}"

@@ -1,6 +1,7 @@
 -- What a reading keeps, with one more token, one more byte and one more line.
 use Rattle.std.proofs.Common.{◌≡◌, ℕ, ◌+◌, ◌-◌, ◌<◌, ◌≤◌, take, drop, get_or, length-drop, length-take-le, take-take, Bool, true, false, not, ◌==◌, if◌then◌else◌, List, [], ◌∷◌, ◌++◌, length, map, refl, ap, sym, ◌∙◌, subst, arith, append_assoc, length-append, Option, Some, None, is_some}
-use Rattle.std.specs.List.{list_all, slice_range}
+use Rattle.std.specs.List.{list_all, slice_range, All}
+use Rattle.std.proofs.lemmas.List.Elements.{All-weaker}
 use Rattle.std.proofs.lemmas.Bool.{eqb-true}
 use Rattle.std.proofs.lemmas.Grind.{common_steps}
 use Rattle.std.proofs.lemmas.List.{append-nil, length-map, take-append-drop, drop-take, take_more}
@@ -9,6 +10,7 @@ use Rattle.tdm_lines.specs.Lines.{Line, TokenFault, fault_of, put_line}
 use Rattle.tdm_lines.specs.Scan.{is_token_byte}
 use Rattle.tdm_lines.specs.Pending.{Scanned, StandsFor, unfinished}
 use Rattle.tdm_lines.specs.SoFar.{IsSoFar, Keeps, Stands, ended_line, token_there}
+use Rattle.tdm_lines.proofs.LineSteps.{numbers_of-within}
 use Rattle.tdm_lines.proofs.SoFarLemmas.{so_far-start, so_far-run, so_far-blank, so_far-feed}
 
 -- the line that ends is the one that the text has
@@ -19,6 +21,12 @@ ended_line-is n (Some f) numbers = refl
 put_line-ended : (max n : ℕ) (toks : List (List ℕ)) → 0 < length toks → put_line max n toks [] ≡ ended_line n (fault_of max toks) (map value toks) ∷ []
 put_line-ended max n [] some = absurd (omega arith)
 put_line-ended max n (t ∷ ts) some = ap (λ (l : Line). l ∷ []) (sym (ended_line-is n (fault_of max (t ∷ ts)) (map value (t ∷ ts))))
+
+-- no number of a line without fault is above the largest
+clean-within : (max largest : ℕ) (toks : List (List ℕ)) → fault_of max toks ≡ None → max ≤ largest → All (λ n. n ≤ largest) (map value toks)
+clean-within max largest toks clean most =
+    let here : All (λ n. n ≤ max) (map value toks) = subst (λ (f : Option TokenFault). All (λ n. n ≤ max) (if is_some f then [] else map value toks)) clean (numbers_of-within max toks) in
+    All-weaker (λ n. n ≤ max) (λ n. n ≤ largest) (λ n below. omega arith) (map value toks) here
 
 no_tokens : (toks : List (List ℕ)) → 0 ≡ length toks → toks ≡ []
 no_tokens [] e = refl
@@ -36,12 +44,12 @@ module _ {G : Type 0} {reads : G → List Line → Type 0} {holds : G → List �
       subst (λ (ls : List Line). Keeps reads holds max fault count state ls []) same (subst (λ (ts : List (List ℕ)). Keeps reads holds max fault count state done ts) empty k)
 
   -- a line with a token
-  pub keeps-line : (max line : ℕ) (fault : Option TokenFault) (count : ℕ) (state next : G) (done : List Line) (toks : List (List ℕ)) → 0 < count
-      → ((before : List Line) (numbers : List ℕ) → reads state before → 0 < count → (fault ≡ None → (count ≡ length numbers) × holds state numbers) → reads next (before ++ ended_line line fault numbers ∷ []))
-      → holds next [] → Keeps reads holds max fault count state done toks → Keeps reads holds max None 0 next (done ++ put_line max line toks []) []
-  keeps-line max line fault count state next done toks some step none k =
+  pub keeps-line : (largest max line : ℕ) (fault : Option TokenFault) (count : ℕ) (state next : G) (done : List Line) (toks : List (List ℕ)) → 0 < count
+      → ((before : List Line) (numbers : List ℕ) → reads state before → 0 < count → (fault ≡ None → (count ≡ length numbers) × holds state numbers × All (λ n. n ≤ largest) numbers) → reads next (before ++ ended_line line fault numbers ∷ []))
+      → max ≤ largest → holds next [] → Keeps reads holds max fault count state done toks → Keeps reads holds max None 0 next (done ++ put_line max line toks []) []
+  keeps-line largest max line fault count state next done toks some step most none k =
       let numbers : List ℕ = map value toks in
-      let made : reads next (done ++ ended_line line fault numbers ∷ []) = step done numbers k.read some (λ clean. (k.count_is ∙ sym (length-map toks value), k.held clean)) in
+      let made : reads next (done ++ ended_line line fault numbers ∷ []) = step done numbers k.read some (λ clean. (k.count_is ∙ sym (length-map toks value), k.held clean, clean-within max largest toks (sym k.fault_is ∙ clean) most)) in
       let there : ended_line line fault numbers ∷ [] ≡ put_line max line toks [] =
       ap (λ f. ended_line line f numbers ∷ []) k.fault_is ∙ sym (put_line-ended max line toks (omega (arith, k.count_is))) in
       record {

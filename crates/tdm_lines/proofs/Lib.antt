@@ -1,4 +1,5 @@
 pub mod AppendLemmas
+pub mod FirstLemmas
 pub mod KeepsLemmas
 pub mod LineSteps
 pub mod PendingLemmas

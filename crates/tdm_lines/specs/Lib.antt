@@ -1,4 +1,5 @@
 pub mod Digits
+pub mod FirstNumbers
 pub mod Lines
 pub mod Pending
 pub mod Scan

@@ -9,6 +9,7 @@ mod cursor;
 #[cfg(test)]
 mod definitions;
 mod digits;
+mod first_numbers;
 mod grammar;
 mod line;
 mod pushed;
@@ -19,6 +20,7 @@ mod tests;
 
 pub use cursor::{FoundLine, LineCursor};
 pub use digits::{Digits, decimal};
+pub use first_numbers::FirstNumbers;
 pub use grammar::Grammar;
 pub use line::{TokenFault, TokenLine, line_after, token_lines};
 pub use pushed::{Scan, ScanStep, TokenEnd};

@@ -58,6 +58,7 @@ impl<G: Grammar + Drop> Reading<G> {
         ensures fine { OnOk result (G.fine self.new.grammar) }
         ensures fed { self.new.fed ≡ self.old.fed }
         ensures scan { self.new.scan ≡ self.old.scan }
+        ensures sizes { OnOk result (G.sizes self.new.grammar ≡ G.sizes self.old.grammar) }
         ensures keeps { OnOk result ((max : ℕ) (done : List Line) (toks : List (List ℕ)) (bytes : List ℕ)
             → token ≡ ending max bytes
             → Keeps G.reads G.holds max self.old.fault self.old.count self.old.grammar done toks
@@ -86,7 +87,8 @@ impl<G: Grammar + Drop> Reading<G> {
         ensures fine { OnOk result (G.fine self.new.grammar) }
         ensures fed { self.new.fed ≡ self.old.fed }
         ensures scan { self.new.scan ≡ self.old.scan }
-        ensures keeps { OnOk result ((max : ℕ) (done : List Line) (toks : List (List ℕ))
+        ensures sizes { OnOk result (G.sizes self.new.grammar ≡ G.sizes self.old.grammar) }
+        ensures keeps { OnOk result ((max : ℕ) (done : List Line) (toks : List (List ℕ)) → max ≤ G.largest
             → Keeps G.reads G.holds max self.old.fault self.old.count self.old.grammar done toks
             → Keeps G.reads G.holds max self.new.fault self.new.count self.new.grammar
             (done ++ put_line max line toks []) []) }
@@ -109,7 +111,8 @@ impl<G: Grammar + Drop> Reading<G> {
         ensures fine { OnOk result (G.fine self.new.grammar) }
         ensures fed { OnOk result (self.new.fed ≡ self.old.fed + 1) }
         ensures max { OnOk result (self.new.scan.max ≡ self.old.scan.max) }
-        ensures stands { OnOk result ((text : List ℕ)
+        ensures sizes { OnOk result (G.sizes self.new.grammar ≡ G.sizes self.old.grammar) }
+        ensures stands { OnOk result ((text : List ℕ) → self.old.scan.max ≤ G.largest
             → Stands G.reads G.holds self.old.scan self.old.fed self.old.fault self.old.count self.old.grammar text
             → Stands G.reads G.holds self.new.scan self.new.fed self.new.fault self.new.count self.new.grammar
             (text ++ byte ∷ [])) }
@@ -153,7 +156,8 @@ impl<G: Grammar + Drop> Reading<G> {
         ensures fine { OnOk result (G.fine self.new.grammar) }
         ensures fed { OnOk result (self.new.fed ≡ self.old.fed + length piece.now) }
         ensures max { OnOk result (self.new.scan.max ≡ self.old.scan.max) }
-        ensures stands { OnOk result ((text : List ℕ)
+        ensures sizes { OnOk result (G.sizes self.new.grammar ≡ G.sizes self.old.grammar) }
+        ensures stands { OnOk result ((text : List ℕ) → self.old.scan.max ≤ G.largest
             → Stands G.reads G.holds self.old.scan self.old.fed self.old.fault self.old.count self.old.grammar text
             → Stands G.reads G.holds self.new.scan self.new.fed self.new.fault self.new.count self.new.grammar
             (text ++ piece.now)) }
@@ -174,7 +178,8 @@ impl<G: Grammar + Drop> Reading<G> {
         requires fine { G.fine self.grammar }
         requires room { self.fed + 1 < 2 ^ 31 }
         ensures fine { IfOk result (λ r. G.fine r.0) }
-        ensures read { IfOk result (λ r. (text : List ℕ)
+        ensures sizes { IfOk result (λ r. G.sizes r.0 ≡ G.sizes self.grammar) }
+        ensures read { IfOk result (λ r. (text : List ℕ) → self.scan.max ≤ G.largest
             → Stands G.reads G.holds self.scan self.fed self.fault self.count self.grammar text
             → G.reads r.0 (lines self.scan.max text)) }
         ensures line { IfOk result (λ r. (text : List ℕ)

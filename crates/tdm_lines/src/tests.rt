@@ -1,8 +1,8 @@
-ghost use Rattle.std.specs.Prelude.{◌≤◌, ◌^◌, length};
+ghost use Rattle.std.specs.Prelude.{◌≤◌, ◌^◌, [], length};
 
 use crate::{
-    FoundLine, Grammar, LineCursor, Reading, Scan, ScanStep, TokenEnd, TokenFault, decimal,
-    line_after, token_lines,
+    FirstNumbers, FoundLine, Grammar, LineCursor, Reading, Scan, ScanStep, TokenEnd, TokenFault,
+    decimal, line_after, token_lines,
 };
 use std::alloc::{AllocError, Global};
 use std::process::Abort;
@@ -155,6 +155,10 @@ struct Tally {
 }
 
 impl Grammar for Tally {
+    ghost largest = { 9 };
+
+    ghost sizes = { λ _. [] };
+
     ghost fine = { λ _. Unit {0} };
 
     ghost reads = { λ _ _. Unit {0} };
@@ -206,5 +210,17 @@ fn cuts_of_a_text_do_not_matter(rt: HostRuntime) -> Result<(), Fail> {
         assert_eq!(rt; read.0.faults, 1);
         assert_eq!(rt; read.1, 4);
     }
+    Ok(())
+}
+
+#[test]
+fn keeps_the_first_numbers_of_a_line(rt: HostRuntime) -> Result<(), Fail> {
+    let mut first = FirstNumbers::new(rt.alloc(), 2, 9);
+    first.push(3)?;
+    first.push(12)?;
+    first.push(5)?;
+    assert_eq!(rt; first.numbers(), [3, 9].as_slice());
+    first.clear();
+    assert_eq!(rt; first.numbers().len(), 0);
     Ok(())
 }

@@ -26,12 +26,12 @@ pub returns-in-Ok-clause-board : goal.returns-in-Ok-clause-board
 returns-in-Ok-clause-board c = λ text there.
     let inside = subst (λ (r : Fed). IsAt r text) (sym c.self.view_is) there in
     said text c.self.inside.reading.scan.max c.in_ok-state.end c.in_ok-state.state (omega (arith, inside.stands.fed_is, c.fed.ensures)) inside.max
-    (c.in_ok-state.ensures.line text inside.stands) (c.in_ok-state.ensures.read text inside.stands)
+    (c.in_ok-state.ensures.line text inside.stands) (c.in_ok-state.ensures.read text (omega (arith, inside.max)) inside.stands)
     ∙ sym c.finish-2.ensures ∙ c.in-Ok.is
 
 pub returns-in-Err-clause-refused : goal.returns-in-Err-clause-refused
 returns-in-Err-clause-refused c = λ text there.
     let inside = subst (λ (r : Fed). IsAt r text) (sym c.self.view_is) there in
     said text c.self.inside.reading.scan.max c.in_ok-state.end c.in_ok-state.state (omega (arith, inside.stands.fed_is, c.fed.ensures)) inside.max
-    (c.in_ok-state.ensures.line text inside.stands) (c.in_ok-state.ensures.read text inside.stands)
+    (c.in_ok-state.ensures.line text inside.stands) (c.in_ok-state.ensures.read text (omega (arith, inside.max)) inside.stands)
     ∙ sym c.finish-2.ensures ∙ c.in-Err.is

@@ -27,5 +27,5 @@ returns-clause-reads c = λ done numbers reads some known end more.
     let h = c.take.new.self in
     let line : Line = ended_line c.args.line c.args.fault numbers in
     ap (board_of_lines end) (append_assoc done (line ∷ []) more) ∙ reads end (line ∷ more)
-    ∙ taken-line g.role g.sizes g.draft g.left g.listed h.role h.sizes h.draft h.left h.listed c.args.line c.args.fault g.numbers.items numbers c.args._count some known
+    ∙ taken-line g.role g.sizes g.draft g.left g.listed h.role h.sizes h.draft h.left h.listed c.args.line c.args.fault g.numbers.items numbers c.args._count some (λ none. ((known none).0, (known none).1))
     (sym (c.line_fault.ensures c.args.line) ∙ c.in_default.is) c.in_ok-take.ensures.stays c.in_ok-take.ensures.said end more

@@ -7,7 +7,7 @@ use Rattle.tdm_lines.proofs.KeepsLemmas.{stands-blank, stands-feed, not-false, n
 use Rattle.tdm_lines.proofs.reading.Reading.end.Goals as goal
 
 pub returns-then-not-step-clause-stands : goal.returns-then-not-step-clause-stands
-returns-then-not-step-clause-stands g c = λ text stands.
+returns-then-not-step-clause-stands g c = λ text most stands.
     let now = c.args.self.now in
     let pushed = c.push-step.ensures in
     let next = c.token.new.self in
@@ -21,7 +21,7 @@ returns-then-not-step-clause-stands g c = λ text stands.
     (λ done toks keeps. c.in_ok-token.ensures.keeps now.scan.max done toks (unfinished text) token keeps) stands
 
 pub returns-clause-stands : goal.returns-clause-stands
-returns-clause-stands g c = λ text stands.
+returns-clause-stands g c = λ text most stands.
     let now = c.args.self.now in
     let pushed = c.push-step.ensures in
     let middle = c.token.new.self in
@@ -34,5 +34,5 @@ returns-clause-stands g c = λ text stands.
     (ap (λ (s : Scanned). s.max) scan ∙ pushed.max) (ap (λ (s : Scanned). s.line) scan ∙ line)
     (λ t s. subst (λ (x : Scanned). StandsFor x (t ++ c.args.byte ∷ [])) (sym scan) (pushed.stands t s))
     (λ done toks keeps.
-    let ended = c.in_ok-line_end.ensures.keeps now.scan.max done (toks ++ token_there (unfinished text)) (c.in_ok-token.ensures.keeps now.scan.max done toks (unfinished text) token keeps) in
+    let ended = c.in_ok-line_end.ensures.keeps now.scan.max done (toks ++ token_there (unfinished text)) most (c.in_ok-token.ensures.keeps now.scan.max done toks (unfinished text) token keeps) in
     subst (λ (n : ℕ). Keeps g.G.Grammar.reads g.G.Grammar.holds now.scan.max next.fault next.count next.grammar (done ++ put_line now.scan.max n (toks ++ token_there (unfinished text)) []) []) c.line-line.ensures ended) stands
