@@ -3,3 +3,4 @@ pub mod Summing
 pub mod Looking
 pub mod TurnLaws
 pub mod PassLaws
+pub mod FirstTrees

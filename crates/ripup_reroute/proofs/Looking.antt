@@ -1,19 +1,19 @@
 -- What a search over the marginal lengths of a net finds, or shows.
-use Rattle.std.proofs.Common.{◌≡◌, ℕ, ◌+◌, ◌-◌, ◌*◌, ◌^◌, ◌<◌, ◌≤◌, List, [], ◌∷◌, length, sym, ap, ◌∙◌, subst, ⊎_elim, arith}
-use Rattle.std.specs.Prelude.{slice_index, All, Contains}
+use Rattle.std.proofs.Common.{◌≡◌, ℕ, ◌+◌, ◌-◌, ◌*◌, ◌^◌, ◌<◌, ◌≤◌, List, [], length, sym, ap, ◌∙◌, subst, ⊎_elim, arith}
+use Rattle.std.specs.Prelude.{slice_index, All}
 use Rattle.std.specs.List.Sorted.{IsStrictlyIncreasing}
 use Rattle.std.proofs.Math.Path.{fun_ext}
 use Rattle.std.proofs.lemmas.Bool.{cases_lt}
-use Rattle.std.proofs.lemmas.List.Elements.{All-contains}
 use Rattle.tdm_problem.specs.Board.{Board}
 use Rattle.tdm_problem.specs.Distance.{length_of}
 use Rattle.tdm_problem.specs.Legal.{terminals_of}
 use Rattle.tdm_problem.specs.Loads.{marginal_length, without_net}
 use Rattle.tdm_problem.specs.Trees.{tree_of}
-use Rattle.tdm_problem.specs.Walk.{IsWalk, AnyWire, IsMinimalTree, IsConnectable}
+use Rattle.tdm_problem.specs.Walk.{IsMinimalTree, IsConnectable}
 use Rattle.board_graph.specs.Graph.{Graph, graph_of, board_of}
 use Rattle.shortest_forest.proofs.SameBoard.{IsWalk-same}
 use Rattle.steiner_build.specs.Building.{IsWithinWalks}
+use Rattle.steiner_build.proofs.BuildLaws.{connectable-tree}
 use Rattle.ripup_reroute.specs.Rerouting.{AreMinimalTrees}
 use Rattle.ripup_reroute.specs.Working.{AreLoads, IsWithinNet, IsBetter, old_length}
 
@@ -23,17 +23,10 @@ within-graph board graph same wire_length start fpgas number within far reached 
     within far
     (λ t there. let r = reached t there in (r.0, IsWalk-same board (board_of graph) (sym (ap (λ (g : Graph). g.wires) same)) start r.0 t r.1, r.2))
 
--- walks by some wires are walks by any
-any-walk : (board : Board) (wires : ℕ → Type 0) → ((e : ℕ) → wires e → AnyWire board e) → (a : ℕ) (es : List ℕ) (b : ℕ) → IsWalk board wires a es b → IsWalk board (AnyWire board) a es b
-any-walk board wires are a [] b walk = walk
-any-walk board wires are a (e ∷ es) b walk =
-    (are e walk.0, (walk.1.0, walk.1.1, any-walk board wires are walk.1.0 es b walk.1.2))
-
 -- a net that has a tree is connectable
 pub tree-connects : (board : Board) (trees : List (List ℕ)) (n : ℕ) → AreMinimalTrees board trees → n < length board.nets → IsConnectable board (terminals_of board n)
-tree-connects board trees n are there a b has_a has_b =
-    let walk = (are.minimal n there).joins a b has_a has_b in
-    (walk.0, any-walk board (Contains (tree_of trees n)) (λ e on. All-contains (AnyWire board) (tree_of trees n) e (are.for_board.there n [] (omega (arith, there, are.for_board.nets))) on) a walk.0 b walk.1)
+tree-connects board trees n are there =
+    connectable-tree board (tree_of trees n) (terminals_of board n) (are.for_board.there n [] (omega (arith, there, are.for_board.nets))) (are.minimal n there)
 
 module _ (board : Board) (graph : Graph) (same : graph ≡ graph_of board) (trees : List (List ℕ)) (numbers : List ℕ) (n : ℕ) (loads : List ℕ) (are : AreLoads board (without_net trees n) numbers loads) where
   -- the lengths that a search reads are the marginal lengths

@@ -5,6 +5,8 @@
 mod loads;
 mod marginals;
 mod passes;
+#[cfg(test)]
+mod tests;
 mod turn;
 
 pub use passes::{Rerouted, reroute};
