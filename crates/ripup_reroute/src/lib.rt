@@ -9,4 +9,5 @@ mod passes;
 mod tests;
 mod turn;
 
+pub use loads::loads_of;
 pub use passes::{Rerouted, reroute};
