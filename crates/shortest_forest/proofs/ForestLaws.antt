@@ -137,15 +137,20 @@ module _ (board : Board) (l : ℕ → ℕ) (root : ℕ) (s : Labels) (all : IsAl
   no_label_no_walk f none es walk =
       let near = walk_label root 0 es f root_label walk in unlabelled s f near.0 none near.1
 
+  -- the distance of an FPGA is its least length from the root, and where it has none no walk leads there
+  pub distances_exact : (f : ℕ) → MatchOption (distance_in (label_at s f)) (HasNoWalk board root f) (IsDistance board l root f)
+  distances_exact f = go (label_at s f) refl
+    where
+      go : (x : Option Label) → label_at s f ≡ x → MatchOption (distance_in x) (HasNoWalk board root f) (IsDistance board l root f)
+      go None is = no_label_no_walk f is
+      go (Some x) is = label_is_distance f x.distance (x.wire, is)
+
   module _ (reach : Reach) (is_root : reach.root ≡ root) (n : ℕ) (fpgas : n ≡ board.fpgas) (inside : root < board.fpgas) (far_ends : (e f u : ℕ) → Links board e f u → u < board.fpgas) (count : length reach.distances ≡ n) (distances : (f : ℕ) → f < n → distance_of reach f ≡ distance_in (label_at s f)) (wire_count : length reach.parents ≡ n) (wires : (f : ℕ) → f < n → parent_of reach f ≡ wire_in (label_at s f)) where
     distances' : (f : ℕ) → f < board.fpgas → MatchOption (distance_of reach f) (HasNoWalk board reach.root f) (IsDistance board l reach.root f)
     distances' f below =
-        let P : Option ℕ → Type 0 = λ x. MatchOption x (HasNoWalk board reach.root f) (IsDistance board l reach.root f) in
-        subst P (sym (distances f (omega (arith, below, fpgas)))) (go (label_at s f) refl)
-      where
-        go : (x : Option Label) → label_at s f ≡ x → MatchOption (distance_in x) (HasNoWalk board reach.root f) (IsDistance board l reach.root f)
-        go None is = subst (λ (n : ℕ). HasNoWalk board n f) (sym is_root) (no_label_no_walk f is)
-        go (Some x) is = subst (λ (n : ℕ). IsDistance board l n f x.distance) (sym is_root) (label_is_distance f x.distance (x.wire, is))
+        let P : Option ℕ → Type 0 = λ x. MatchOption x (HasNoWalk board root f) (IsDistance board l root f) in
+        let Q : ℕ → Type 0 = λ n. MatchOption (distance_of reach f) (HasNoWalk board n f) (IsDistance board l n f) in
+        subst Q (sym is_root) (subst P (sym (distances f (omega (arith, below, fpgas)))) (distances_exact f))
 
     at_distance : (f d : ℕ) → f < board.fpgas → IsAtLabel s f d → distance_of reach f ≡ Some d
     at_distance f d below at = distances f (omega (arith, below, fpgas)) ∙ ap distance_in at.1

@@ -14,3 +14,4 @@ pub mod WayLaws
 pub mod NearestLaws
 pub mod ForestLaws
 mod SampleParents
+mod ArcWays

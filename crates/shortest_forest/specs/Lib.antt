@@ -7,3 +7,4 @@ pub mod Labels
 pub mod Stamps
 pub mod LeastForest
 pub mod Settled
+pub mod Laws

@@ -39,7 +39,7 @@ impl Model for Search {
 }
 
 impl Search {
-    /// A workspace for a graph, without labels and goals.
+    /// A workspace for a graph, without labels and goals. The first search starts with [`Search::begin`] too.
     pub fn new(alloc: Global, graph: &BoardGraph) -> Result<Search, AllocError>
         ensures labels { IfOk result (λ search. search.labels ≡ replicate graph.now.fpgas None) }
         ensures goals { IfOk result (λ search. search.goals ≡ replicate graph.now.fpgas false) }

@@ -1,8 +1,10 @@
 //! Forests of least lengths from one FPGA.
-ghost use Rattle.std.specs.Prelude.{◌≡◌, ◌<◌, ◌≤◌, ℕ, None, false, length, replicate, slice_index_or, IfOk, OnOk};
+ghost use Rattle.std.specs.Prelude.{◌≡◌, ◌<◌, ◌≤◌, ℕ, None, false, length, replicate, slice_index_or, IfOk, OnOk, MatchOption};
+ghost use Rattle.tdm_problem.specs.Distance.{IsDistance};
 ghost use Rattle.board_graph.specs.Graph.{IsGraph, board_of};
 ghost use Rattle.shortest_forest.specs.Labels.{label_at, distance_in, wire_in};
 ghost use Rattle.shortest_forest.specs.LeastForest.{IsLeastForest};
+ghost use Rattle.shortest_forest.specs.Reach.{HasNoWalk};
 ghost use Rattle.shortest_forest.specs.Settled.{IsAllSettled};
 
 use crate::hop_forest::Forest;
@@ -39,7 +41,8 @@ pub fn forest<Q: Lengths>(
     })
 }
 
-/// Begins a search from FPGA `root` and settles all FPGAs that wires lead to. No FPGA is marked as a goal,
+/// Begins a search from FPGA `root` and settles all FPGAs that wires lead to: their distances are then the
+/// least lengths of walks from the root, and the others have none. No FPGA is marked as a goal,
 /// before or after, so the same workspace serves the next root, after want of memory too.
 pub fn settle_all<Q: Lengths>(
     search: &mut Search,
@@ -52,6 +55,9 @@ pub fn settle_all<Q: Lengths>(
     requires count { length search.old.labels ≡ graph.now.fpgas }
     requires goals { search.old.goals ≡ replicate graph.now.fpgas false }
     ensures settled { OnOk result (IsAllSettled (board_of graph.now) (Q.length lengths.now) root search.new) }
+    ensures exact { OnOk result ((f : ℕ) → f < graph.now.fpgas
+        → MatchOption (distance_in (label_at search.new f)) (HasNoWalk (board_of graph.now) root f)
+        (IsDistance (board_of graph.now) (Q.length lengths.now) root f)) }
     ensures goals { search.new.goals ≡ search.old.goals }
     ensures count { length search.new.labels ≡ length search.old.labels }
 {

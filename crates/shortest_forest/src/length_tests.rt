@@ -1,7 +1,7 @@
 ghost use Rattle.std.specs.Prelude.{◌≡◌, ◌^◌, min, length, slice_index, IfOk};
 ghost use Rattle.std.proofs.Common.{rules};
 
-use crate::{Lengths, forest};
+use crate::{Lengths, Search, forest, settle_all};
 use board_graph::BoardGraph;
 use std::alloc::{AllocError, Global};
 use tdm_problem::{ProblemDraft, Wire};
@@ -102,4 +102,20 @@ fn two_fpgas_apart_have_no_distance(rt: HostRuntime) {
     let least = forest(rt.alloc(), &graph, 0, &Three([7, 0, 0])).expect(&rt, "memory");
     assert!(rt; least.dist(1) == Some(7));
     assert!(rt; least.dist(2).is_none() && least.parent_wire(2).is_none());
+}
+
+#[test]
+fn one_workspace_serves_both_roots(rt: HostRuntime) {
+    let mut draft = ProblemDraft::new(rt.alloc(), 3);
+    assert!(rt; draft.push_wire(Wire { a: 0, b: 1 }).is_ok());
+    assert!(rt; draft.push_wire(Wire { a: 1, b: 2 }).is_ok());
+    let graph = BoardGraph::of(rt.alloc(), &draft.into_problem()).expect(&rt, "memory");
+    assert_eq!(rt; graph.fpgas(), 3);
+    assert_eq!(rt; graph.wires(), 2);
+    let mut search = Search::new(rt.alloc(), &graph).expect(&rt, "memory");
+    assert!(rt; settle_all(&mut search, &graph, 0, &Three([1, 4, 0])).is_ok());
+    assert!(rt; search.distance(2) == Some(5) && search.wire(2) == Some(1));
+    assert!(rt; settle_all(&mut search, &graph, 2, &Three([1, 4, 0])).is_ok());
+    assert!(rt; search.distance(2) == Some(0) && search.wire(2).is_none());
+    assert!(rt; search.distance(0) == Some(5) && search.wire(0) == Some(0));
 }

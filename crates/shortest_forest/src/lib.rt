@@ -1,4 +1,5 @@
-//! Shortest paths from one FPGA of a board to all others, and the baseline trees of nets.
+//! Searches on a board: least hops and baseline trees; least lengths over wires or arcs, from any sources to
+//! the nearest goal.
 #![tactic(auto)]
 
 #[cfg(test)]
@@ -9,6 +10,7 @@ mod definitions;
 mod hop_forest;
 mod label;
 mod labels;
+mod laws;
 mod least;
 #[cfg(test)]
 mod length_tests;
@@ -24,6 +26,7 @@ pub use baseline::{base_tree, other_end};
 pub use hop_forest::{Forest, hops};
 pub use label::Label;
 pub use labels::Search;
+pub use laws::ways_back_are_walks;
 pub use least::{forest, settle_all};
 pub use lengths::{ArcLengths, BothWays, Lengths, LowerBounds, NoBound};
 pub use nearest::{MOST_CAP, nearest_goal};

@@ -13,10 +13,11 @@ use std::alloc::AllocError;
 pub const MOST_CAP: u64 = u64::MAX - (1 << 51) + 1;
 
 /// Goes on with the search until its nearest goal is settled, and answers it. None where nothing below
-/// `cap` is left: no goal is nearer than that. Labels whose distance and lower bound reach the cap are left
-/// out. Within one search, the lengths stay as they are, the cap may fall and bounds may rise. After want
-/// of memory the goals are as they were, but the labels are those of no search: [`Search::begin`] comes
-/// before anything else is asked of them.
+/// `cap` is left: where the bounds are true, no goal is nearer than that. Labels whose distance and lower
+/// bound reach the cap are left out. [`Search::begin`] comes before the first call of a search. Within one
+/// search, the lengths stay as they are, the cap may fall and bounds may rise. After want of memory the
+/// goals are as they were, but the labels are those of no search: [`Search::begin`] comes before anything
+/// else is asked of them.
 pub fn nearest_goal<A: ArcLengths, B: LowerBounds>(
     search: &mut Search,
     graph: &BoardGraph,

@@ -13,8 +13,8 @@ use Rattle.shortest_forest.specs.Arcs.{both_ways, IsLowerBound}
 use Rattle.shortest_forest.specs.Labels.{Labels}
 use Rattle.shortest_forest.proofs.ClimbLaws.{sorted_rising}
 use Rattle.shortest_forest.proofs.SameBoard.{Links-same}
-use Rattle.steiner_build.specs.Building.{IsBelowWays, IsWithinWalks, IsSomeBeyond}
-use Rattle.steiner_build.specs.Joining.{AreOthers, HasNoGoals, IsJoining}
+use Rattle.steiner_build.specs.Building.{IsBelowWays, IsWithinWalks}
+use Rattle.steiner_build.specs.Joining.{AreOthers, HasNoGoals, IsJoining, IsSomeBeyond}
 use Rattle.steiner_build.proofs.LengthLaws.{any-walk, walk-few, length-few}
 use Rattle.steiner_build.proofs.WayLaws.{arc_walk-to}
 

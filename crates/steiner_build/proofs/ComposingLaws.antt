@@ -7,8 +7,8 @@ use Rattle.tdm_problem.specs.Distance.{length_of}
 use Rattle.shortest_forest.specs.Arcs.{both_ways, IsGoal, IsLowerBound}
 use Rattle.shortest_forest.specs.Labels.{Labels, IsSource, IsUnderWay}
 use Rattle.shortest_forest.proofs.UnderWay.{IsUnderWay-falls, begun_unlabelled}
-use Rattle.steiner_build.specs.Building.{IsWithinWalks, IsSomeBeyond}
-use Rattle.steiner_build.specs.Joining.{goal_count, HasNoGoals, AreOthers, IsWithinGoals, IsJoinedBy, IsJoining}
+use Rattle.steiner_build.specs.Building.{IsWithinWalks}
+use Rattle.steiner_build.specs.Joining.{goal_count, HasNoGoals, AreOthers, IsWithinGoals, IsJoinedBy, IsJoining, IsSomeBeyond}
 use Rattle.steiner_build.proofs.JoiningLaws.{goal_count-less, some-left, none-left, IsJoining-start, IsJoining-more, far-together, total-small}
 use Rattle.steiner_build.proofs.TakingLaws.{source-new}
 use Rattle.std.proofs.lemmas.List.{length-set}

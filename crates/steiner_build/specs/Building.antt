@@ -1,5 +1,5 @@
 -- What builds trees, and how long a tree may be.
-use Rattle.std.specs.Prelude.{◌≢◌, ℕ, ◌+◌, ◌^◌, ◌<◌, ◌≤◌, List, sum_by, Contains}
+use Rattle.std.specs.Prelude.{◌≢◌, ℕ, ◌≤◌, List, sum_by, Contains}
 use Rattle.tdm_problem.specs.Board.{Board}
 use Rattle.tdm_problem.specs.Walk.{IsWalk, AnyWire, Joins}
 use Rattle.tdm_problem.specs.Distance.{IsDistance, length_of}
@@ -35,8 +35,3 @@ IsWithinJoining board wire_length fpgas number = (wires : List ℕ) → Joins bo
 abbrev pub IsBelowWays : Board → (ℕ → ℕ) → ℕ → List ℕ → (ℕ → ℕ) → Type 0
 IsBelowWays board wire_length start fpgas bound = (f t : ℕ) (es : List ℕ) → Contains fpgas t → t ≢ start
     → IsWalk board (AnyWire board) f es t → bound f ≤ length_of wire_length es
-
--- to some of the FPGAs every walk from the start is so long that with a tree it passes the number
-abbrev pub IsSomeBeyond : Board → (ℕ → ℕ) → ℕ → List ℕ → ℕ → Type 0
-IsSomeBeyond board wire_length start fpgas number = (t : ℕ) × Contains fpgas t
-    × ((es : List ℕ) → IsWalk board (AnyWire board) start es t → number < length_of wire_length es + 2 ^ 63)

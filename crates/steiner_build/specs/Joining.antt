@@ -1,5 +1,5 @@
 -- How a tree grows while a search is under way: its sources are the FPGAs that the tree reaches.
-use Rattle.std.specs.Prelude.{◌≡◌, ◌≢◌, ℕ, ◌≤◌, ◌⊎◌, ◌++◌, ◌↔◌, Bool, false, cond, List, sum_by, slice_set, slice_index_or, All, Contains, IsPermutation}
+use Rattle.std.specs.Prelude.{◌≡◌, ◌≢◌, ℕ, ◌≤◌, ◌⊎◌, ◌++◌, ◌↔◌, Bool, false, cond, List, sum_by, slice_set, slice_index_or, All, Contains, IsPermutation, ◌+◌, ◌^◌, ◌<◌}
 use Rattle.tdm_problem.specs.Board.{Board}
 use Rattle.tdm_problem.specs.Walk.{IsWalk, AnyWire}
 use Rattle.tdm_problem.specs.Distance.{length_of}
@@ -64,3 +64,8 @@ pub record IsJoining (board : Board) (wire_length : ℕ → ℕ) (start : ℕ) (
   pub listed : All (AnyWire board) wires
   pub long : total ≡ length_of wire_length wires
   pub spent : IsSpent board wire_length start (IsJoined terminals s.goals) total
+
+-- to some of the FPGAs no walk from the start is shorter than the number less 2^63, and no tree is that long
+abbrev pub IsSomeBeyond : Board → (ℕ → ℕ) → ℕ → List ℕ → ℕ → Type 0
+IsSomeBeyond board wire_length start fpgas number = (t : ℕ) × Contains fpgas t
+    × ((es : List ℕ) → IsWalk board (AnyWire board) start es t → number < length_of wire_length es + 2 ^ 63)

@@ -38,7 +38,8 @@ impl Model for TreeBuilder {
 impl TreeBuilder {
     /// A builder for a graph.
     pub fn new(alloc: Global, graph: &BoardGraph) -> Result<TreeBuilder, AllocError>
-        ensures { IfOk result (λ builder. builder.fpgas ≡ graph.now.fpgas) }
+        ensures fpgas { IfOk result (λ builder. builder.fpgas ≡ graph.now.fpgas) }
+        ensures wires { IfOk result (λ builder. builder.wires ≡ []) }
     {
         let search = Search::new(alloc, graph)?;
         Ok(TreeBuilder {
@@ -62,7 +63,7 @@ impl TreeBuilder {
     }
 
     /// Grows a minimal tree of the terminals from `start`, one of them: the nearest of the others is joined
-    /// by a least path, again and again. Some of its length, if that is below `cap`; its wires are then
+    /// by a least path, again and again. Answers the tree's length, where that is below `cap`; its wires are then
     /// [`TreeBuilder::wires`]. None where walks from `start` to the terminals are together at least as long
     /// as `cap`; with the greatest cap no wires connect the terminals. They are FPGAs of the graph that the
     /// builder was made for. The bound of an FPGA is at most the length of every walk from there to a
@@ -125,8 +126,8 @@ impl TreeBuilder {
 }
 
 /// A minimal tree of the terminals, wires rising: from the first terminal on, the nearest of the others is
-/// joined by a least path, again and again. It is not longer than the least distances of the terminals from
-/// the first one together; for two terminals it is the shortest of all sets of wires that join them. The
+/// joined by a least path, again and again. It is not longer than the sum of the least distances of the
+/// terminals from the first one; for two terminals it is the shortest of all sets of wires that join them. The
 /// terminals are FPGAs of the graph, at least one, and the lengths cover its wires.
 pub fn build<Q: Lengths>(
     alloc: Global,

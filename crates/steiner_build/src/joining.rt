@@ -4,8 +4,8 @@ ghost use Rattle.tdm_problem.specs.Walk.{IsWalk, AnyWire};
 ghost use Rattle.board_graph.specs.Graph.{IsGraph, board_of};
 ghost use Rattle.shortest_forest.specs.Arcs.{IsGoal, IsLowerBound, both_ways};
 ghost use Rattle.shortest_forest.specs.Labels.{IsUnderWay, IsBegun, StaysUnderWay, IsSource};
-ghost use Rattle.steiner_build.specs.Building.{IsBelowWays, IsWithinWalks, IsSomeBeyond};
-ghost use Rattle.steiner_build.specs.Joining.{IsTakenIn, IsJoinedBy, IsJoining, IsWithinGoals, HasNoGoals, AreOthers, goal_count};
+ghost use Rattle.steiner_build.specs.Building.{IsWithinWalks};
+ghost use Rattle.steiner_build.specs.Joining.{IsTakenIn, IsJoinedBy, IsJoining, IsWithinGoals, HasNoGoals, AreOthers, IsSomeBeyond, goal_count};
 
 use board_graph::BoardGraph;
 use shortest_forest::{BothWays, Lengths, LowerBounds, Search, nearest_goal, other_end, way_back};

@@ -1,8 +1,8 @@
-ghost use Rattle.std.specs.Prelude.{◌≡◌, length, IfOk};
+ghost use Rattle.std.specs.Prelude.{◌≡◌, ◌-◌, ◌^◌, ◌<◌, ◌≤◌, length, IfOk};
 
 use crate::{BuildFault, TreeBuilder, build};
 use board_graph::BoardGraph;
-use shortest_forest::{Lengths, MOST_CAP, NoBound};
+use shortest_forest::{Lengths, LowerBounds, MOST_CAP, NoBound};
 use std::alloc::{AllocError, Global};
 use tdm_problem::{ProblemDraft, Wire};
 
@@ -40,6 +40,21 @@ impl Lengths for Alike {
 
     fn len_of(&self, _wire: u32) -> u64 {
         self.0.min(1 << 51)
+    }
+}
+
+/// FPGA 2 is a terminal, and at least one wire leads to it from every other.
+struct OneFromElsewhere;
+
+impl LowerBounds for OneFromElsewhere {
+    ghost use Rattle.std.specs.Prelude.{nat_eq, if◌then◌else◌};
+
+    ghost bounds_covered = { λ _. 4096 };
+
+    ghost lower_bound = { λ _ f. if nat_eq f 2 then 0 else 1 };
+
+    fn bound_of(&self, fpga: u32) -> u64 {
+        if fpga == 2 { 0 } else { 1 }
     }
 }
 
@@ -140,6 +155,31 @@ fn caps_are_passed_by_no_tree(rt: HostRuntime) {
     assert!(rt; builder.grow(&graph, &ByNumber, &NoBound, &[0, 1, 3], 0, 3) == Ok(None));
     assert!(rt; builder.grow(&graph, &ByNumber, &NoBound, &[0, 1, 2], 2, 2) == Ok(Some(1)));
     assert!(rt; builder.wires() == [0, 1].as_slice());
+}
+
+/// Grows a tree of FPGAs 0 and 2 from the first, with bounds, where all wires are 1 long.
+fn grow_pair(
+    builder: &mut TreeBuilder,
+    graph: &BoardGraph,
+    cap: u64,
+) -> Result<Option<u64>, AllocError>
+    requires graph { builder.old.fpgas ≡ graph.now.fpgas }
+    requires there { 2 < graph.now.fpgas }
+    requires cap { cap ≤ 2 ^ 64 - 2 ^ 51 }
+    ensures { builder.new.fpgas ≡ builder.old.fpgas }
+{
+    let _wires = graph.wires();
+    builder.grow(graph, &Alike(1), &OneFromElsewhere, &[0, 2], 0, cap)
+}
+
+#[test]
+fn bounds_leave_out_what_reaches_the_cap(rt: HostRuntime) {
+    let graph = ring(rt.alloc()).expect(&rt, "memory");
+    assert_eq!(rt; graph.fpgas(), 4);
+    let mut builder = TreeBuilder::new(rt.alloc(), &graph).expect(&rt, "memory");
+    assert!(rt; grow_pair(&mut builder, &graph, 2) == Ok(None));
+    assert!(rt; grow_pair(&mut builder, &graph, 3) == Ok(Some(2)));
+    assert_eq!(rt; builder.wires().len(), 2);
 }
 
 #[test]

@@ -3,7 +3,7 @@ use Rattle.std.proofs.lemmas.List.{length-replicate}
 use Rattle.board_graph.specs.Graph.{board_of}
 use Rattle.shortest_forest.specs.declared.label.Label.{Label}
 use Rattle.shortest_forest.specs.Arcs.{both_ways}
-use Rattle.shortest_forest.proofs.ForestLaws.{far_without_goals, one_source, all_settled}
+use Rattle.shortest_forest.proofs.ForestLaws.{far_without_goals, one_source, all_settled, distances_exact}
 use Rattle.shortest_forest.proofs.least.settle_all.Goals as goal
 
 pub nearest_goal-requires-clause-under_way : goal.nearest_goal-requires-clause-under_way
@@ -26,3 +26,7 @@ returns-clause-settled g c =
     let far = far_without_goals board (both_ways l) (λ _. 0) (2 ^ 64 - 2 ^ 51) graph.fpgas s goals c.in_ok-_found._found c.in_ok-_found.ensures.found c.in_ok-_found.ensures.far in
     let source = one_source n c.args.root c.begin.new.self c.add_source.new.self c.begin.ensures.labels c.in_ok-add_source.ensures.labels (omega (arith, c.requires.root, c.requires.count)) in
     all_settled graph l (2 ^ 64 - 2 ^ 51) s c.in_ok-_found.ensures.under_way far.nearer_settled refl c.fpgas-fpgas.ensures.graph.fpga_limit (λ e below. g.met.Q.Lengths.limit c.args.lengths.now e (omega (arith, below, c.requires.lengths))) c.args.root c.add_source.new.self source c.in_ok-_found.ensures.sources
+
+pub returns-clause-exact : goal.returns-clause-exact
+returns-clause-exact g c = λ f below.
+    distances_exact (board_of c.args.graph.now) (g.Q.Lengths.length c.args.lengths.now) c.args.root c.nearest_goal.new.search (returns-clause-settled g c) f

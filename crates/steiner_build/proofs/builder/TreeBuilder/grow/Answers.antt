@@ -5,7 +5,8 @@ use Rattle.tdm_problem.specs.Board.{Board}
 use Rattle.tdm_problem.specs.Walk.{IsMinimalTree, IsConnectable}
 use Rattle.tdm_problem.specs.Distance.{length_of}
 use Rattle.board_graph.specs.Graph.{Graph, board_of, graph_of}
-use Rattle.steiner_build.specs.Building.{IsWithinWalks, IsSomeBeyond}
+use Rattle.steiner_build.specs.Building.{IsWithinWalks}
+use Rattle.steiner_build.specs.Joining.{IsSomeBeyond}
 use Rattle.steiner_build.proofs.JoiningLaws.{tree-minimal, tree-together}
 use Rattle.steiner_build.proofs.BuildLaws.{lower-bound, graph-minimal, whole-rising, whole-inside, whole-long, some-by, none-by, beyond-apart}
 use Rattle.steiner_build.proofs.TakingLaws.{links-inside}
