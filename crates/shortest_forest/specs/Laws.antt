@@ -1,8 +1,8 @@
--- Laws on the ways back of a search.
+-- Laws on the ways back of a search, and on its cap.
 use Rattle.std.specs.Prelude.{◌≡◌, ℕ, ◌≤◌, List, reverse}
 use Rattle.tdm_problem.specs.Board.{Board}
 use Rattle.shortest_forest.specs.Arcs.{Arcs, IsArcWalk, IsLowerBound}
-use Rattle.shortest_forest.specs.Labels.{Labels, IsAtLabel, IsWayBack, IsLabelled, IsNearest}
+use Rattle.shortest_forest.specs.Labels.{Labels, IsAtLabel, IsWayBack, IsLabelled, IsUnderWay, IsNearest}
 
 -- the way back from a label, turned round, leads over the arcs from a source, and is no longer than the label says
 abbrev pub WayLaw : Type 0
@@ -16,3 +16,9 @@ NearestWayLaw = (board : Board) (arcs : Arcs) (bound : ℕ → ℕ) (cap : ℕ) 
     → IsLowerBound board arcs s.goals bound → (goal : ℕ) (near : IsNearest board arcs bound cap s goal)
     → (es : List ℕ) (source : ℕ) → IsWayBack board s goal es source
     → IsArcWalk board arcs source (reverse es) goal near.distance
+
+-- a search stays under way where bounds rise and the cap falls
+abbrev pub FallingCapLaw : Type 0
+FallingCapLaw = (board : Board) (arcs : Arcs) (bound bound' : ℕ → ℕ) (cap cap' : ℕ) (s : Labels)
+    → ((f : ℕ) → bound f ≤ bound' f) → cap' ≤ cap → IsUnderWay board arcs bound cap s
+    → IsUnderWay board arcs bound' cap' s

@@ -26,7 +26,7 @@ pub use baseline::{base_tree, other_end};
 pub use hop_forest::{Forest, hops};
 pub use label::Label;
 pub use labels::Search;
-pub use laws::ways_back_are_walks;
+pub use laws::{caps_may_fall, ways_back_are_walks};
 pub use least::{forest, settle_all};
 pub use lengths::{ArcLengths, BothWays, Lengths, LowerBounds, NoBound};
 pub use nearest::{MOST_CAP, nearest_goal};
