@@ -1,21 +1,21 @@
 -- How what one input says, or decides, joins with what comes behind it.
 use Rattle.std.proofs.Common.{◌≡◌, ◌⊎◌, ℕ, suc, ◌+◌, ◌-◌, ◌<◌, ◌≤◌, List, [], ◌∷◌, length, refl, sym, ap, subst, ◌∙◌, inl, inr, arith, drop}
-use Rattle.std.specs.Prelude.{Option, Some, None, Result, Ok, Err, IfOk, IfErr, option_map, ◌≢◌}
+use Rattle.std.specs.Prelude.{Option, Some, None, Result, Ok, Err, IfOk, IfErr, option_map}
 use Rattle.std.specs.declared.alloc.AllocError.{AllocError}
 use Rattle.std.specs.FinMap.{get}
 use Rattle.tdm_desk.specs.declared.slots.InSlot.{InSlot}
 use Rattle.tdm_desk.specs.declared.slots.InSlot.TheVariants.{In0, In1, In2}
 use Rattle.tdm_desk.specs.Files.{Bytes, Name, Files, bytes_under}
 use Rattle.tdm_desk.specs.Seen.{Seen, files_of}
-use Rattle.tdm_desk.specs.Counts.{Counts, CountsFaults}
+use Rattle.tdm_desk.specs.Counts.{Counts, CountsFaults, read_counted}
 use Rattle.tdm_desk.proofs.CountLaws.{counts_both, counts_nothing, reading_failed_later}
 use Rattle.command_run.specs.declared.outcome.Decision.{Decision}
 use Rattle.command_run.specs.declared.outcome.Decision.TheVariants as decision
 use Rattle.command_run.specs.declared.outcome.Prepared.{Prepared}
 use Rattle.command_run.specs.Slots.{place, KeepsInput, KeepsInputsBut, WasRead}
-use Rattle.command_run.specs.Outcome.{Outcome, outcome_of}
-use Rattle.command_run.specs.Inputs.{Input, Holds, HoldEach, TextKind, FromText, FromInput, ByInput, ByNone}
-use Rattle.command_run.specs.Decision.{OnlyReads, AreRead, DecisionShows, Decides, Had, EarlyShows, DecidesEarly}
+use Rattle.command_run.specs.Outcome.{Faults, Outcome, outcome_of, HasFailed}
+use Rattle.command_run.specs.Inputs.{Input, Content, no_file, unreadable, text, Holds, HoldEach, TextKind, unread, FromText, FromInput, ByInput, ByNone}
+use Rattle.command_run.specs.Decision.{OnlyReads, IsCalledFor, DecisionShows, Decides, Had, EarlyShows, DecidesEarly}
 
 -- places are counted from 1
 pub positive : (slot : InSlot) → 0 < place slot
@@ -78,99 +78,101 @@ then-only slot last before between after below first second = record {
 
 -- ---- contents
 
--- what the file of a name holds, as far as the desk tells
-content-of : (seen : Seen) (name : Name) → (content : Option Bytes) × Holds seen name content
-content-of seen name = by (files_of seen) refl
+-- what the file of a name holds, as far as the desk tells, of an input that was not opened
+content-under : (opened : ℕ) (failed : Option InSlot) (input : Input) (before after : Seen) → opened < place input.slot → (content : Content) × Holds opened failed input content before after
+content-under opened failed input before after behind = by (files_of before) refl
   where
-    by : (files : Option Files) → files_of seen ≡ files → (content : Option Bytes) × Holds seen name content
-    by None told = (None, λ files is. absurd (let e : ◌≡◌ {A = Option Files} None (Some files) = sym told ∙ is in cc))
-    by (Some files) told = (
-      get files name,
-      λ others is.
-          let same : ◌≡◌ {A = Option Files} (Some files) (Some others) = sym told ∙ is in
-          let equal : files ≡ others = cc in
-          ap (λ f. get f name) equal,
-    )
+    told-by : (P : Files → Type 0) (files : Files) → P files → files_of before ≡ Some files → (others : Files) → files_of before ≡ Some others → P others
+    told-by P files is told others same =
+        let e : ◌≡◌ {A = Option Files} (Some files) (Some others) = sym told ∙ same in
+        let equal : files ≡ others = cc in
+        subst P equal is
 
-contents-of : (seen : Seen) (inputs : List Input) → (contents : List (Option Bytes)) × HoldEach seen inputs contents
-contents-of seen [] = ([], tt)
-contents-of seen (input ∷ inputs) =
-    let first = content-of seen input.name in
-    let rest = contents-of seen inputs in
+    held : (files : Files) → files_of before ≡ Some files → (found : Option Bytes) → get files input.name ≡ found → (content : Content) × Holds opened failed input content before after
+    held files told None is = (no_file, told-by (λ fs. get fs input.name ≡ None) files is told)
+    held files told (Some bytes) is = (text bytes, (told-by (λ fs. get fs input.name ≡ Some bytes) files is told, λ near. absurd (omega arith)))
+
+    by : (files : Option Files) → files_of before ≡ files → (content : Content) × Holds opened failed input content before after
+    by None told = (no_file, λ files is. absurd (let e : ◌≡◌ {A = Option Files} None (Some files) = sym told ∙ is in cc))
+    by (Some files) told = held files told (get files input.name) refl
+
+contents-of : (opened : ℕ) (failed : Option InSlot) (inputs : List Input) (before after : Seen) → AreBehind opened inputs → (contents : List Content) × HoldEach opened failed inputs contents before after
+contents-of opened failed [] before after behind = ([], tt)
+contents-of opened failed (input ∷ inputs) before after behind =
+    let first = content-under opened failed input before after behind.0 in
+    let rest = contents-of opened failed inputs before after behind.1 in
     (first.0 ∷ rest.0, (first.1, rest.1))
 
-held-from : (before between : Seen) (inputs : List Input) (contents : List (Option Bytes)) → files_of between ≡ files_of before → HoldEach between inputs contents → HoldEach before inputs contents
-held-from before between [] [] same held = tt
-held-from before between [] (content ∷ contents) same held = held
-held-from before between (input ∷ inputs) [] same held = held
-held-from before between (input ∷ inputs) (content ∷ contents) same held =
-    (λ files is. held.0 files (same ∙ is), held-from before between inputs contents same held.1)
+-- what is held after some inputs were read was held before
+holds-from : (opened : ℕ) (failed : Option InSlot) (input : Input) (content : Content) (before between after : Seen) → files_of between ≡ files_of before → Holds opened failed input content between after → Holds opened failed input content before after
+holds-from opened failed input no_file before between after same held = λ files is. held files (same ∙ is)
+holds-from opened failed input unreadable before between after same held = held
+holds-from opened failed input (text bytes) before between after same held =
+    (λ files is. held.0 files (same ∙ is), λ near. read-from input.slot input.limit input.name before between after same (held.1 near))
+
+held-from : (opened : ℕ) (failed : Option InSlot) (inputs : List Input) (contents : List Content) (before between after : Seen) → files_of between ≡ files_of before → HoldEach opened failed inputs contents between after → HoldEach opened failed inputs contents before after
+held-from opened failed [] [] before between after same held = tt
+held-from opened failed [] (content ∷ contents) before between after same held = held
+held-from opened failed (input ∷ inputs) [] before between after same held = held
+held-from opened failed (input ∷ inputs) (content ∷ contents) before between after same held =
+    (holds-from opened failed input content before between after same held.0, held-from opened failed inputs contents before between after same held.1)
 
 -- ---- reading
 
-module _ {S : Type 0} (no_input : S) where
-  -- inputs behind the last that was opened were not read
-  none-read : (outcome : Outcome S) (inputs : List Input) (before after : Seen) → AreBehind outcome.opened inputs → AreRead no_input outcome inputs before after
-  none-read outcome [] before after behind = tt
-  none-read outcome (input ∷ inputs) before after behind = (λ when. absurd (by when), none-read outcome inputs before after behind.1)
-    where
-      by : (place input.slot < outcome.opened) ⊎ ((place input.slot ≡ outcome.opened) × (outcome.status ≢ no_input)) → ⊥
-      by (inl below) = omega (arith, below, behind.0)
-      by (inr at) = omega (arith, at.0, behind.0)
+module _ {S : Type 0} (faults : Faults S) {V R : Type 0} (slot : InSlot) (kind : TextKind S V R) where
+  -- what is decided by an input itself is decided whatever comes behind it
+  text-itself : (said : Result V R) (Then : V → Outcome S → Type 0) (outcome : Outcome S) → FromText faults slot kind said (λ value o. ⊥) outcome → FromText faults slot kind said Then outcome
+  text-itself (Ok value) Then outcome never = absurd never
+  text-itself (Err refusal) Then outcome is = is
 
-  reads-from : (outcome : Outcome S) (inputs : List Input) (before between after : Seen) → files_of between ≡ files_of before → AreRead no_input outcome inputs between after → AreRead no_input outcome inputs before after
-  reads-from outcome [] before between after same read = tt
-  reads-from outcome (input ∷ inputs) before between after same read =
-      (λ when. read-from input.slot input.limit input.name before between after same (read.0 when), reads-from outcome inputs before between after same read.1)
+  input-itself : (content : Content) (Then : V → Outcome S → Type 0) (outcome : Outcome S) → FromInput faults slot kind content (λ value o. ⊥) outcome → FromInput faults slot kind content Then outcome
+  input-itself no_file Then outcome is = is
+  input-itself unreadable Then outcome is = is
+  input-itself (text bytes) Then outcome is = text-itself (kind.says bytes) Then outcome is
 
-  module _ {V R : Type 0} (kind : TextKind S V R) (slot : InSlot) where
-    -- what is decided by an input itself is decided whatever comes behind it
-    text-itself : (said : Result V R) (Then : V → Outcome S → Type 0) (outcome : Outcome S) → FromText no_input slot kind said (λ value o. ⊥) outcome → FromText no_input slot kind said Then outcome
-    text-itself (Ok value) Then outcome never = absurd never
-    text-itself (Err refusal) Then outcome is = is
-
-    input-itself : (content : Option Bytes) (Then : V → Outcome S → Type 0) (outcome : Outcome S) → FromInput no_input slot kind content (λ value o. ⊥) outcome → FromInput no_input slot kind content Then outcome
-    input-itself None Then outcome is = is
-    input-itself (Some bytes) Then outcome is = text-itself (kind.says bytes) Then outcome is
-
-module _ {D : Type 0} {counts : D → Counts} {steady : D → Type 0} {seen : D → Seen} {S T V R : Type 0} (text : T → Bytes) (no_input : S) (kind : TextKind S V R) (input : Input) (inputs : List Input) (Then : V → List (Option Bytes) → Outcome S → Type 0) where
+module _ {D : Type 0} {counts : D → Counts} {steady : D → Type 0} {seen : D → Seen} {S T V R : Type 0} (text_of : T → Bytes) (faults : Faults S) (kind : TextKind S V R) (input : Input) (inputs : List Input) (Then : V → List Content → Outcome S → Type 0) where
   -- an input decided by itself, or could not be read
-  pub decides-early : (before after : D) (d : Decision S T) → AreBehind (place input.slot) inputs → DecidesEarly counts steady seen text no_input kind input before after d → CountsFaults counts steady before after
-      → Decides counts steady seen text no_input (place input.slot - 1) (input ∷ inputs) (ByInput no_input input.slot kind Then) before after d
+  pub decides-early : (before after : D) (d : Decision S T) → AreBehind (place input.slot) inputs → DecidesEarly counts steady seen text_of faults kind input before after d → CountsFaults counts steady before after
+      → Decides counts steady seen text_of faults (place input.slot - 1) (input ∷ inputs) (ByInput faults input.slot kind Then) before after d
   decides-early before after d behind early counted = record {
     shows = by d early.shows;
     only = only-wider (place input.slot - 1) (place input.slot) (place input.slot - 1 + length (input ∷ inputs)) (seen before) (seen after) (omega (arith, positive input.slot)) early.only;
     counted = counted;
   }
     where
-      by : (d : Decision S T) → EarlyShows counts steady seen text no_input kind input before after d → DecisionShows counts steady seen text no_input (place input.slot - 1) (input ∷ inputs) (ByInput no_input input.slot kind Then) before after d
+      rest : (failed : Option InSlot) → (contents : List Content) × HoldEach (place input.slot) failed inputs contents (seen before) (seen after)
+      rest failed = contents-of (place input.slot) failed inputs (seen before) (seen after) behind
+
+      by : (d : Decision S T) → EarlyShows counts steady seen text_of faults kind input before after d → DecisionShows counts steady seen text_of faults (place input.slot - 1) (input ∷ inputs) (ByInput faults input.slot kind Then) before after d
       by (decision.Prepared prepared) itself = (
         place input.slot,
         record {
-          contents = itself.content ∷ (contents-of (seen before) inputs).0;
-          held = (itself.held, (contents-of (seen before) inputs).1);
-          called = input-itself no_input kind input.slot itself.content (λ value. Then value (contents-of (seen before) inputs).0) (outcome_of text (place input.slot) prepared) itself.called;
-          through = (λ when. itself.through (last when), none-read no_input (outcome_of text (place input.slot) prepared) inputs (seen before) (seen after) behind);
+          contents = itself.content ∷ (rest None).0;
+          held = (itself.held, (rest None).1);
+          called = input-itself faults input.slot kind itself.content (λ value. Then value (rest None).0) (outcome_of text_of (place input.slot) prepared) itself.called;
+          failed = tt;
           from = omega arith;
           reach = early.only.inputs;
         },
+        itself.own,
       )
-        where
-          last : (place input.slot < place input.slot) ⊎ ((place input.slot ≡ place input.slot) × (prepared.status ≢ no_input)) → prepared.status ≢ no_input
-          last (inl below) = absurd (omega arith)
-          last (inr at) = at.1
-      by (decision.Unread slot) unread = record {
-        failed = unread.1;
-        behind = omega (arith, ap place unread.0, positive input.slot);
-        own = omega (arith, ap place unread.0, positive input.slot);
-        reach = subst (λ s. KeepsInputsBut (place input.slot - 1) (place s) (seen before) (seen after)) (sym unread.0) early.only.inputs;
-      }
-      by decision.NoMemory shows = tt
+      by (decision.Unread slot) failed = subst (λ s. DecisionShows counts steady seen text_of faults (place input.slot - 1) (input ∷ inputs) (ByInput faults input.slot kind Then) before after (decision.Unread s)) (sym failed.0) (
+        record {
+          contents = unreadable ∷ (rest (Some input.slot)).0;
+          held = (refl, (rest (Some input.slot)).1);
+          called = refl;
+          failed = subst (λ s. HasFailed counts steady (Some s) before after) failed.0 failed.1;
+          from = omega arith;
+          reach = early.only.inputs;
+        },
+        subst (λ s. counts after ≡ read_counted s (counts before)) failed.0 failed.2,
+      )
+      by decision.NoMemory own = own
 
   -- an input was had, and what comes behind it came to a decision
-  pub decides-then : (before between after : D) (value : V) (d : Decision S T) → Had kind input value (seen before) (seen between) → CountsFaults counts steady before between
-      → Decides counts steady seen text no_input (place input.slot) inputs (Then value) between after d
-      → Decides counts steady seen text no_input (place input.slot - 1) (input ∷ inputs) (ByInput no_input input.slot kind Then) before after d
+  pub decides-then : (before between after : D) (value : V) (d : Decision S T) → Had counts seen kind input value before between → CountsFaults counts steady before between
+      → Decides counts steady seen text_of faults (place input.slot) inputs (Then value) between after d
+      → Decides counts steady seen text_of faults (place input.slot - 1) (input ∷ inputs) (ByInput faults input.slot kind Then) before after d
   decides-then before between after value d had counted later = record {
     shows = by d later.shows;
     only = subst (λ last. OnlyReads (place input.slot - 1) last (seen before) (seen after)) (sum-of (place input.slot) (length inputs) (positive input.slot))
@@ -178,34 +180,33 @@ module _ {D : Type 0} {counts : D → Counts} {steady : D → Type 0} {seen : D 
     counted = counts_both counted later.counted;
   }
     where
-      by : (d : Decision S T) → DecisionShows counts steady seen text no_input (place input.slot) inputs (Then value) between after d → DecisionShows counts steady seen text no_input (place input.slot - 1) (input ∷ inputs) (ByInput no_input input.slot kind Then) before after d
-      by (decision.Prepared prepared) shows = (
-        shows.0,
-        record {
-          contents = Some had.bytes ∷ shows.1.contents;
-          held = (had.held, held-from (seen before) (seen between) inputs shows.1.contents had.only.files shows.1.held);
-          called = subst (λ said. FromText no_input input.slot kind said (λ v. Then v shows.1.contents) (outcome_of text shows.0 prepared)) (sym had.says) shows.1.called;
-          through = (
-            λ when. still-read input.slot input.limit input.name (seen before) (seen between) (seen after) had.through (later.only.inputs input.slot (inl (omega arith))),
-            reads-from no_input (outcome_of text shows.0 prepared) inputs (seen before) (seen between) (seen after) had.only.files shows.1.through,
-          );
-          from = omega (arith, shows.1.from);
-          reach = then-kept input.slot shows.0 (seen before) (seen between) (seen after) shows.1.from had.only.inputs shows.1.reach;
-        },
-      )
-      by (decision.Unread slot) shows = record {
-        failed = reading_failed_later counted shows.failed;
-        behind = omega (arith, shows.behind);
-        own = omega (arith, shows.own, positive input.slot);
-        reach = then-kept input.slot (place slot) (seen before) (seen between) (seen after) (omega (arith, shows.behind)) had.only.inputs shows.reach;
-      }
-      by decision.NoMemory shows = tt
+      failed-later : (u : Option InSlot) → HasFailed counts steady u between after → HasFailed counts steady u before after
+      failed-later None failed = tt
+      failed-later (Some slot) failed = reading_failed_later counted failed
 
-module _ {D : Type 0} {counts : D → Counts} {steady : D → Type 0} {seen : D → Seen} {S T : Type 0} (text : T → Bytes) (no_input : S) (first : ℕ) (Is : Outcome S → Type 0) (desk : D) where
+      came : (outcome : Outcome S) → IsCalledFor counts steady seen (place input.slot) inputs (Then value) outcome between after → IsCalledFor counts steady seen (place input.slot - 1) (input ∷ inputs) (ByInput faults input.slot kind Then) outcome before after
+      came outcome later_came = record {
+        contents = text had.bytes ∷ later_came.contents;
+        held = (
+          (had.held, λ near. still-read input.slot input.limit input.name (seen before) (seen between) (seen after) had.through (later.only.inputs input.slot (inl (omega arith)))),
+          held-from outcome.opened outcome.unread inputs later_came.contents (seen before) (seen between) (seen after) had.only.files later_came.held,
+        );
+        called = subst (λ said. FromText faults input.slot kind said (λ v. Then v later_came.contents) outcome) (sym had.says) later_came.called;
+        failed = failed-later outcome.unread later_came.failed;
+        from = omega (arith, later_came.from);
+        reach = then-kept input.slot outcome.opened (seen before) (seen between) (seen after) later_came.from had.only.inputs later_came.reach;
+      }
+
+      by : (d : Decision S T) → DecisionShows counts steady seen text_of faults (place input.slot) inputs (Then value) between after d → DecisionShows counts steady seen text_of faults (place input.slot - 1) (input ∷ inputs) (ByInput faults input.slot kind Then) before after d
+      by (decision.Prepared prepared) shows = (shows.0, came (outcome_of text_of shows.0 prepared) shows.1, shows.2 ∙ had.own)
+      by (decision.Unread slot) shows = (came (unread faults slot) shows.0, shows.1 ∙ ap (read_counted slot) had.own)
+      by decision.NoMemory own = own ∙ had.own
+
+module _ {D : Type 0} {counts : D → Counts} {steady : D → Type 0} {seen : D → Seen} {S T : Type 0} (text_of : T → Bytes) (faults : Faults S) (first : ℕ) (Is : Outcome S → Type 0) (desk : D) where
   -- all inputs were had, and an outcome prepared, or memory was wanting
-  pub decides-last : (made : Result (Prepared S T) AllocError) (d : Decision S T) → IfOk made (λ prepared. Is (outcome_of text first prepared))
+  pub decides-last : (made : Result (Prepared S T) AllocError) (d : Decision S T) → IfOk made (λ prepared. Is (outcome_of text_of first prepared))
       → IfOk made (λ prepared. d ≡ decision.Prepared prepared) → IfErr made (λ _. d ≡ decision.NoMemory)
-      → Decides counts steady seen text no_input first [] (ByNone Is) desk desk d
+      → Decides counts steady seen text_of faults first [] (ByNone Is) desk desk d
   decides-last made d is some none = record {
     shows = by made is some none;
     only = nothing (first + 0);
@@ -220,18 +221,19 @@ module _ {D : Type 0} {counts : D → Counts} {steady : D → Type 0} {seen : D 
         outputs = λ out. refl;
       }
 
-      by : (made : Result (Prepared S T) AllocError) → IfOk made (λ prepared. Is (outcome_of text first prepared))
+      by : (made : Result (Prepared S T) AllocError) → IfOk made (λ prepared. Is (outcome_of text_of first prepared))
           → IfOk made (λ prepared. d ≡ decision.Prepared prepared) → IfErr made (λ _. d ≡ decision.NoMemory)
-          → DecisionShows counts steady seen text no_input first [] (ByNone Is) desk desk d
-      by (Ok prepared) is some none = subst (DecisionShows counts steady seen text no_input first [] (ByNone Is) desk desk) (sym some) (
+          → DecisionShows counts steady seen text_of faults first [] (ByNone Is) desk desk d
+      by (Ok prepared) is some none = subst (DecisionShows counts steady seen text_of faults first [] (ByNone Is) desk desk) (sym some) (
         first,
         record {
           contents = [];
           held = tt;
           called = is;
-          through = tt;
+          failed = tt;
           from = omega arith;
           reach = (nothing first).inputs;
         },
+        refl,
       )
-      by (Err e) is some none = subst (DecisionShows counts steady seen text no_input first [] (ByNone Is) desk desk) (sym none) tt
+      by (Err e) is some none = subst (DecisionShows counts steady seen text_of faults first [] (ByNone Is) desk desk) (sym none) refl

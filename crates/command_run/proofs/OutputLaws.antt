@@ -10,7 +10,7 @@ use Rattle.tdm_desk.specs.Seen.{Seen, created, written, output_closed, said, fil
 use Rattle.tdm_desk.proofs.SeenLaws.{files-output_closed, files-written-created, files-said, said-created, said-written, said-output_closed, said-said, rest-created, rest-written, rest-output_closed, rest-said, input_is_open-created, input_is_open-written, input_is_open-output_closed, input_is_open-said, output_is_open-created, output_is_open-written, output_is_open-created_other, output_is_open-closed_other, output_is_open-said}
 use Rattle.command_run.specs.Slots.{out_place, KeepsInputs, OnlyWrites, AreClosedFrom}
 use Rattle.tdm_desk.specs.Counts.{Counts, CountsFaults}
-use Rattle.tdm_desk.proofs.CountLaws.{counts_both, counts_nothing}
+use Rattle.tdm_desk.proofs.CountLaws.{counts_both}
 use Rattle.command_run.specs.Outcome.{Faults}
 use Rattle.command_run.specs.Outputs.{with_files, Leaves, IsFirstPart, AreBegun, LeavesBegun, IsStop, IsPutOut, IsCutOff, PutsOut}
 
@@ -271,7 +271,7 @@ module _ {A B : Type 0} (name_of : A → Name) (text_of : B → Bytes) where
 module _ {D S T : Type 0} {counts : D → Counts} {steady : D → Type 0} {seen : D → Seen} (faults : Faults S) (names : List Name) (text : T → Bytes) (texts : List T) (report : Bytes) (status : S) (before between after : D) (answer : S) (more : Bytes) where
   -- all texts were written, and this was said
   pub puts : OnlyWrites 0 (0 + length texts) (seen before) (seen between) → CountsFaults counts steady before between → CountsFaults counts steady between after → seen after ≡ said more (seen between)
-      → IsPutOut counts steady seen faults names (map text texts) report status before after answer ⊎ IsCutOff counts steady seen faults names (map text texts) report status before after answer
+      → IsPutOut counts steady seen faults names (map text texts) report status None before after answer ⊎ IsCutOff counts steady seen faults names (map text texts) report status None before after answer
       → PutsOut counts steady seen faults names (map text texts) report status before after answer
   puts only first second is ends = record {
     ends = ends;
@@ -283,21 +283,22 @@ module _ {D S T : Type 0} {counts : D → Counts} {steady : D → Type 0} {seen 
     counted = counts_both first second;
   }
 
-  pub said-whole : Leaves (seen before) (seen between) names (map text texts) [] → AreClosedFrom 0 (0 + length texts) (seen between) → seen after ≡ said report (seen between) → answer ≡ status
-      → IsPutOut counts steady seen faults names (map text texts) report status before after answer
-  said-whole left closed is stands = record {
+  pub said-whole : Leaves (seen before) (seen between) names (map text texts) [] → AreClosedFrom 0 (0 + length texts) (seen between) → seen after ≡ said report (seen between) → answer ≡ status → counts after ≡ counts before
+      → IsPutOut counts steady seen faults names (map text texts) report status None before after answer
+  said-whole left closed is stands own = record {
+    own = own;
     left = leaves-said (seen before) (seen between) (seen after) names (map text texts) report left is;
     closed = λ slot near. ap (output_is_open slot) is ∙ output_is_open-said slot report (seen between) ∙ closed slot (out-positive slot) (omega (arith, length-map texts text));
     stands = stands;
   }
 
-  pub said-part : Leaves (seen before) (seen between) names (map text texts) [] → PrefixSaid report (seen between) (seen after) → IsStop counts steady faults before after answer
-      → IsCutOff counts steady seen faults names (map text texts) report status before after answer
+  pub said-part : Leaves (seen before) (seen between) names (map text texts) [] → PrefixSaid report (seen between) (seen after) → IsStop counts steady faults None before after answer
+      → IsCutOff counts steady seen faults names (map text texts) report status None before after answer
   said-part left part cause = record {
     begun = map text texts;
     more = take part.0 report;
-    is_begun = inr (refl, (part.0, refl));
-    left = leaves-said (seen before) (seen between) (seen after) names (map text texts) (take part.0 report) left part.1;
+    is_begun = inr (refl, (part.0, part.1, refl));
+    left = leaves-said (seen before) (seen between) (seen after) names (map text texts) (take part.0 report) left part.2;
     cause = cause;
   }
 
@@ -308,18 +309,3 @@ module _ {D S : Type 0} {counts : D → Counts} {steady : D → Type 0} {seen : 
       subst (λ x. PutsOut counts steady seen faults names x q t before after answer) e
       (subst (λ x. PutsOut counts steady seen faults names a x t before after answer) f
       (subst (λ x. PutsOut counts steady seen faults names a r x before after answer) h puts))
-
-  -- memory was wanting for the report, and nothing was done
-  pub puts-nothing : (report : Bytes) (status : S) (desk : D) (answer : S) → answer ≡ faults.out_of_memory → PutsOut counts steady seen faults names [] report status desk desk answer
-  puts-nothing report status desk answer wanting = record {
-    ends = inr (record {
-      begun = [];
-      more = [];
-      is_begun = inl (tt, refl);
-      left = leaves-nothing (seen desk) (seen desk) names refl refl;
-      cause = inr wanting;
-    });
-    inputs = λ slot. record { opens = refl; rest = refl };
-    untouched = λ slot far. refl;
-    counted = counts_nothing desk;
-  }

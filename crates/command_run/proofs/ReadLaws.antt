@@ -1,6 +1,6 @@
 -- What the steps of reading an input leave.
-use Rattle.std.proofs.Common.{◌≡◌, ◌⊎◌, ℕ, ◌+◌, ◌-◌, ◌<◌, ◌≤◌, [], Bool, true, false, refl, sym, ap, ◌∙◌, inl, inr, arith, length, take, drop}
-use Rattle.std.specs.Prelude.{Option, Some, None, is_some, option_map, unwrap_or, IsTrue, if◌then◌else◌}
+use Rattle.std.proofs.Common.{◌≡◌, ◌⊎◌, ℕ, ◌+◌, ◌-◌, ◌<◌, ◌≤◌, [], Bool, true, false, refl, sym, ap, subst, ◌∙◌, inl, inr, arith, drop}
+use Rattle.std.specs.Prelude.{Option, Some, None, is_some, option_map, unwrap_or, IsTrue, IsFalse, if◌then◌else◌}
 use Rattle.std.proofs.lemmas.List.{take_all}
 use Rattle.std.specs.Option.{ForSome}
 use Rattle.std.specs.FinMap.{get, contains_key}
@@ -11,7 +11,7 @@ use Rattle.tdm_desk.specs.Files.{Bytes, Name, Files, bytes_under}
 use Rattle.tdm_desk.specs.Seen.{Seen, opened, input_closed, taken, files_of, said_of, rest_of, input_is_open, output_is_open}
 use Rattle.tdm_desk.proofs.SeenLaws.{files-opened, files-input_closed, files-taken, said-opened, said-input_closed, said-taken, rest-opened, rest-taken, rest-opened_other, rest-input_closed_other, rest-taken_other, input_is_open-opened, input_is_open-taken, input_is_open-opened_other, input_is_open-input_closed_other, output_is_open-opened, output_is_open-input_closed, output_is_open-taken}
 use Rattle.command_run.specs.Slots.{place, WasRead}
-use Rattle.command_run.specs.Filled.{FilledFrom}
+use Rattle.command_run.specs.Filled.{IsFed, FilledFrom}
 use Rattle.command_run.specs.Decision.{OnlyReads}
 
 -- a slot before or behind another is not that one
@@ -84,19 +84,19 @@ read-through slot limit name before between after first is = record {
     by (Some f) = refl
 
 -- what was taken are the first bytes of the file; where the desk does not tell, the file may hold just these
-pub filled : (slot : InSlot) (limit : ℕ) (name : Name) (fed : Bytes) (before between after : Seen)
+pub filled : {Q : Type 0} (is_at : Q → Bytes → Type 0) (reader : Q) (slot : InSlot) (limit : ℕ) (name : Name) (before between after : Seen)
     → (found : Bool) → found ≡ true → ForSome (files_of before) (λ files. found ≡ contains_key files name)
     → between ≡ opened slot name before → after ≡ taken slot (limit + 1) between
-    → ForSome (rest_of slot between) (λ rest. fed ≡ take (limit + 1) rest) → length fed ≤ limit + 1
-    → FilledFrom slot name limit fed before after
+    → IsFed is_at reader (limit + 1) (rest_of slot between)
+    → FilledFrom is_at reader slot name limit before after
 unfolding bytes_under
-filled slot limit name fed before between after found is_there shown first second front short = by (files_of before) refl
+filled is_at reader slot limit name before between after found is_there shown first second it = by (files_of before) refl
   where
-    by : (files : Option Files) → files_of before ≡ files → FilledFrom slot name limit fed before after
+    by : (files : Option Files) → files_of before ≡ files → FilledFrom is_at reader slot name limit before after
     by None told = record {
-      bytes = fed;
+      bytes = it.fed;
       held = λ files is. absurd (let e : ◌≡◌ {A = Option Files} None (Some files) = sym told ∙ is in cc);
-      front = sym (take_all (limit + 1) fed short);
+      stands = subst (is_at reader) (sym (take_all (limit + 1) it.fed it.short)) it.stands;
       through = read-through slot limit name before between after first second;
     }
     by (Some files) told = record {
@@ -104,7 +104,15 @@ filled slot limit name fed before between after found is_there shown first secon
       held = λ others is.
           let same : ◌≡◌ {A = Option Files} (Some files) (Some others) = sym told ∙ is in
           let equal : files ≡ others = cc in
-          there (get files name) (sym (shown files told) ∙ is_there) ∙ ap (λ f. get f name) equal;
-      front = front (bytes_under name files) (ap (rest_of slot) first ∙ rest-opened slot name before ∙ ap (option_map (bytes_under name)) told);
+          ap (λ f. get f name) (sym equal) ∙ sym (there (get files name) (sym (shown files told) ∙ is_there));
+      stands = subst (is_at reader) (it.front (bytes_under name files) (ap (rest_of slot) first ∙ rest-opened slot name before ∙ ap (option_map (bytes_under name)) told)) it.stands;
       through = read-through slot limit name before between after first second;
     }
+
+-- there is no file of this name
+pub absent : (name : Name) (before : Seen) (found : Bool) → IsFalse found → ForSome (files_of before) (λ files. found ≡ contains_key files name) → ForSome (files_of before) (λ files. get files name ≡ None)
+absent name before found is_not shown = λ files is. missing (get files name) (sym (shown files is) ∙ is_not)
+  where
+    missing : (o : Option Bytes) → is_some o ≡ false → o ≡ None
+    missing None e = refl
+    missing (Some b) e = cc

@@ -1,6 +1,8 @@
 -- What a run comes to.
-use Rattle.std.specs.Prelude.{ℕ, List, map}
+use Rattle.std.specs.Prelude.{◌≢◌, ℕ, List, Option, Some, None, map}
+use Rattle.tdm_desk.specs.declared.slots.InSlot.{InSlot}
 use Rattle.tdm_desk.specs.Files.{Bytes}
+use Rattle.tdm_desk.specs.Counts.{Counts, ReadingFailed, read_counted}
 use Rattle.command_run.specs.declared.outcome.Prepared.{Prepared}
 
 -- the statuses that runs of all commands have in common
@@ -10,9 +12,19 @@ pub record Faults (S : Type 0) : Type 0 where
   pub write_fault : S
   pub out_of_memory : S
 
--- how many inputs were opened, the status, the report, and the text of each output
+-- no two of them are the same
+pub record AreApart {S : Type 0} (faults : Faults S) : Type 0 where
+  pub missing_unread : faults.no_input ≢ faults.read_fault
+  pub missing_unwritten : faults.no_input ≢ faults.write_fault
+  pub missing_wanting : faults.no_input ≢ faults.out_of_memory
+  pub unread_unwritten : faults.read_fault ≢ faults.write_fault
+  pub unread_wanting : faults.read_fault ≢ faults.out_of_memory
+  pub unwritten_wanting : faults.write_fault ≢ faults.out_of_memory
+
+-- how many inputs were opened, the one that could not be read, if one, the status, the report, and the text of each output
 pub record Outcome (S : Type 0) : Type 0 where
   pub opened : ℕ
+  pub unread : Option InSlot
   pub status : S
   pub report : Bytes
   pub texts : List Bytes
@@ -21,7 +33,18 @@ pub record Outcome (S : Type 0) : Type 0 where
 abbrev pub outcome_of : {S T : Type 0} → (T → Bytes) → ℕ → Prepared S T → Outcome S
 outcome_of text opened prepared = record {
   opened = opened;
+  unread = None;
   status = prepared.status;
   report = prepared.report.items;
   texts = map text prepared.texts.items;
 }
+
+-- the counts with one more fault of the input that could not be read, if one
+abbrev pub with_unread : Option InSlot → Counts → Counts
+with_unread None counts = counts
+with_unread (Some slot) counts = read_counted slot counts
+
+-- the input that could not be read, if one, failed
+abbrev pub HasFailed : {D : Type 0} → (D → Counts) → (D → Type 0) → Option InSlot → D → D → Type 0
+HasFailed counts steady None before after = Unit {0}
+HasFailed counts steady (Some slot) before after = ReadingFailed counts steady slot before after

@@ -10,7 +10,7 @@ use crate::report;
 use crate::status::RunStatus;
 use crate::text::OutputText;
 use crate::writing::put_out;
-use std::alloc::{AllocError, Global};
+use std::alloc::Global;
 use tdm_desk::{Desk, InSlot};
 
 /// Says that this input could not be read.
@@ -24,23 +24,20 @@ fn conclude_unread<D: Desk, S: RunStatus, T: OutputText>(
         (read_fault_report (place slot)) S.faults.read_fault desk.old desk.new result }
 {
     let none: Vec<T> = Vec::new(alloc);
-    match report::read_fault(alloc, slot) {
-        Ok(report) => put_out(
-            desk,
-            outputs,
-            none.as_slice(),
-            report.as_slice(),
-            S::read_fault(),
-        ),
-        Err(AllocError) => S::out_of_memory(),
-    }
+    put_out(
+        desk,
+        outputs,
+        none.as_slice(),
+        report::read_fault(slot),
+        S::read_fault(),
+    )
 }
 
 /// Puts out what was decided: writes its texts to the outputs of these names in order, says its report, and answers its
 /// status; or says that an input could not be read.
 ///
-/// A fault of writing or saying, or want of memory, is answered in place of the status. First parts of the texts may be
-/// written then, or all of them and a first part of the report said.
+/// A fault of writing or saying, or want of memory, is answered in place of the status, and nothing is done after it.
+/// First parts of the texts may be written then, or all of them and some of the report said, but not all.
 pub fn conclude<D: Desk, S: RunStatus, T: OutputText>(
     alloc: Global,
     desk: &mut D,

@@ -1,12 +1,11 @@
 //! Reading an input of a command.
-ghost use Rattle.std.specs.Prelude.{◌≡◌, ◌≤◌, ◌<◌, ◌+◌, ◌-◌, ◌++◌, [], Some, length, take, IsTrue, IfOk, OnOk, OnErr, IfErr, IsErrOf};
+ghost use Rattle.std.specs.Prelude.{◌≡◌, ◌≤◌, ◌<◌, ◌+◌, ◌-◌, ◌++◌, ℕ, List, [], None, length, take, IsTrue, IsFalse, IfOk, OnOk, OnErr, IfErr, IsErrOf};
 ghost use Rattle.std.specs.Option.{ForSome};
 ghost use Rattle.std.specs.FinMap.{get};
 ghost use Rattle.tdm_desk.specs.Seen.{input_is_open, rest_of, files_of, taken, SomeTaken};
-ghost use Rattle.tdm_desk.specs.Counts.{CountsFaults, ReadingFailed};
-ghost use Rattle.command_run.specs.Slots.{place, WasRead};
-ghost use Rattle.command_run.specs.Inputs.{Holds};
-ghost use Rattle.command_run.specs.Filled.{FilledFrom, UnfilledShows};
+ghost use Rattle.tdm_desk.specs.Counts.{CountsFaults, CountsOnlyReading, ReadingFailed};
+ghost use Rattle.command_run.specs.Slots.{place};
+ghost use Rattle.command_run.specs.Filled.{HasMore, IsFed, FilledFrom};
 ghost use Rattle.command_run.specs.Decision.{OnlyReads, Had, DecidesEarly, IsSaid};
 
 use crate::outcome::{Decision, Prepared};
@@ -19,17 +18,6 @@ use tdm_desk::{Desk, DeskFault, InSlot};
 /// The most bytes that one read asks for.
 const PIECE: usize = 65536;
 
-/// Why a reader was not fed an input.
-#[derive(Debug, Drop)]
-pub(crate) enum Unfilled {
-    /// There is no file of its name.
-    NoFile,
-    /// Opening or reading it failed.
-    Failed,
-    /// Memory was wanting.
-    NoMemory,
-}
-
 /// Reads once, feeds the reader with what was read, and answers how many bytes that was.
 fn feed_piece<D: Desk, R: TextReader>(
     desk: &mut D,
@@ -39,12 +27,12 @@ fn feed_piece<D: Desk, R: TextReader>(
 ) -> Result<usize, DeskFault>
     requires is_open { IsTrue (input_is_open slot (D.seen desk.old)) }
     requires has_room { 0 < length buffer.old }
-    requires limited { length (R.fed reader.old) + length buffer.old ≤ R.limit reader.old + 1 }
+    requires limited { R.fed reader.old + length buffer.old ≤ R.limit reader.old + 1 }
     ensures within { IfOk result (λ count. count ≤ length buffer.old) }
-    ensures more { IfOk result (λ count. length (R.fed reader.new) ≡ length (R.fed reader.old) + count) }
+    ensures fed { IfOk result (λ count. R.fed reader.new ≡ R.fed reader.old + count) }
     ensures ok { IfOk result (λ count. D.seen desk.new ≡ taken slot count (D.seen desk.old)) }
-    ensures bytes { IfOk result (λ count. ForSome (rest_of slot (D.seen desk.old))
-        (λ rest. R.fed reader.new ≡ R.fed reader.old ++ take count rest)) }
+    ensures at { IfOk result (λ count. (text : List ℕ) → R.is_at reader.old text
+        → HasMore R.is_at reader.new text count (rest_of slot (D.seen desk.old))) }
     ensures end { IfOk result (λ count. count ≡ 0 → ForSome (rest_of slot (D.seen desk.old))
         (λ rest. rest ≡ [])) }
     ensures err { OnErr result (SomeTaken slot (D.seen desk.old) (D.seen desk.new)) }
@@ -53,6 +41,7 @@ fn feed_piece<D: Desk, R: TextReader>(
     ensures limit { R.limit reader.new ≡ R.limit reader.old }
     ensures failed { IsErrOf result DeskFault.Failed →
         ReadingFailed D.counts D.steady slot desk.old desk.new }
+    ensures own { CountsOnlyReading D.counts slot result desk.old desk.new }
     ensures counted { CountsFaults D.counts D.steady desk.old desk.new }
 {
     let count = desk.read(slot, buffer)?;
@@ -68,17 +57,18 @@ fn feed_input<D: Desk, R: TextReader>(
     reader: &mut R,
 ) -> Result<(), DeskFault>
     requires is_open { IsTrue (input_is_open slot (D.seen desk.old)) }
-    requires fresh { R.fed reader.old ≡ [] }
-    ensures within { OnOk result (length (R.fed reader.new) ≤ R.limit reader.new + 1) }
+    requires fresh { R.is_at reader.old [] }
+    requires none { R.fed reader.old ≡ 0 }
     ensures ok { OnOk result (D.seen desk.new ≡ taken slot (R.limit reader.old + 1) (D.seen desk.old)) }
-    ensures bytes { OnOk result (ForSome (rest_of slot (D.seen desk.old))
-        (λ rest. R.fed reader.new ≡ take (R.limit reader.old + 1) rest)) }
+    ensures fed { OnOk result (IsFed R.is_at reader.new (R.limit reader.old + 1)
+        (rest_of slot (D.seen desk.old))) }
     ensures err { OnErr result (SomeTaken slot (D.seen desk.old) (D.seen desk.new)) }
     ensures kind { R.kind reader.new ≡ R.kind reader.old }
     ensures known { (value : R.Value) → R.known reader.new value → R.known reader.old value }
     ensures limit { R.limit reader.new ≡ R.limit reader.old }
     ensures failed { IsErrOf result DeskFault.Failed →
         ReadingFailed D.counts D.steady slot desk.old desk.new }
+    ensures own { CountsOnlyReading D.counts slot result desk.old desk.new }
     ensures counted { CountsFaults D.counts D.steady desk.old desk.new }
 {
     let most = reader.limit() as usize + 1;
@@ -95,36 +85,36 @@ fn feed_input<D: Desk, R: TextReader>(
     Ok(())
 }
 
-/// Opens the file of this name, and feeds the reader with it.
+/// Opens the file of this name, and feeds the reader with it; answers whether there is such a file.
 fn fill<D: Desk, R: TextReader>(
     alloc: Global,
     desk: &mut D,
     slot: InSlot,
     name: &str,
     reader: &mut R,
-) -> Result<(), Unfilled>
-    requires { R.fed reader.old ≡ [] }
-    ensures within { OnOk result (length (R.fed reader.new) ≤ R.limit reader.new + 1) }
-    ensures ok { OnOk result (FilledFrom slot name.now (R.limit reader.old) (R.fed reader.new)
-        (D.seen desk.old) (D.seen desk.new)) }
-    ensures err { IfErr result (UnfilledShows name.now (D.seen desk.old)) }
+) -> Result<bool, DeskFault>
+    requires fresh { R.is_at reader.old [] }
+    requires none { R.fed reader.old ≡ 0 }
+    ensures ok { IfOk result (λ found. IsTrue found → FilledFrom R.is_at reader.new slot name.now
+        (R.limit reader.old) (D.seen desk.old) (D.seen desk.new)) }
+    ensures missing { IfOk result (λ found. IsFalse found → ForSome (files_of (D.seen desk.old))
+        (λ files. get files name.now ≡ None)) }
     ensures only { OnlyReads (place slot - 1) (place slot) (D.seen desk.old) (D.seen desk.new) }
     ensures kind { R.kind reader.new ≡ R.kind reader.old }
     ensures known { (value : R.Value) → R.known reader.new value → R.known reader.old value }
     ensures limit { R.limit reader.new ≡ R.limit reader.old }
-    ensures failed { IsErrOf result Unfilled.Failed →
+    ensures failed { IsErrOf result DeskFault.Failed →
         ReadingFailed D.counts D.steady slot desk.old desk.new }
+    ensures own { CountsOnlyReading D.counts slot result desk.old desk.new }
     ensures counted { CountsFaults D.counts D.steady desk.old desk.new }
 {
     match desk.open_input(slot, name) {
         Ok(true) => match feed_input(alloc, desk, slot, reader) {
-            Ok(()) => Ok(()),
-            Err(DeskFault::Failed) => Err(Unfilled::Failed),
-            Err(DeskFault::NoMemory) => Err(Unfilled::NoMemory),
+            Ok(()) => Ok(true),
+            Err(fault) => Err(fault),
         },
-        Ok(false) => Err(Unfilled::NoFile),
-        Err(DeskFault::Failed) => Err(Unfilled::Failed),
-        Err(DeskFault::NoMemory) => Err(Unfilled::NoMemory),
+        Ok(false) => Ok(false),
+        Err(fault) => Err(fault),
     }
 }
 
@@ -150,7 +140,8 @@ fn early<S: RunStatus, T: OutputText>(
 /// Reads an input of a command, and answers what it says; or what it decides by itself, where it is missing, refused, or
 /// cannot be read.
 ///
-/// The reader is one that was fed nothing. No file is changed and nothing is said.
+/// The reader is one that was fed nothing. No file is changed and nothing is said. A fault of reading is decided as such,
+/// and want of memory as such; no call is tried again.
 pub fn read_input<D: Desk, T: OutputText, R: TextReader>(
     alloc: Global,
     desk: &mut D,
@@ -158,25 +149,25 @@ pub fn read_input<D: Desk, T: OutputText, R: TextReader>(
     name: &str,
     reader: R,
 ) -> Result<R::Value, Decision<R::Status, T>>
-    requires { R.fed reader ≡ [] }
-    ensures ok { IfOk result (λ value. Had (R.kind reader)
-        (record { slot = slot; name = name.now; limit = R.limit reader }) value
-        (D.seen desk.old) (D.seen desk.new)) }
+    requires fresh { R.is_at reader [] }
+    requires none { R.fed reader ≡ 0 }
+    ensures ok { IfOk result (λ value. Had D.counts D.seen (R.kind reader)
+        (record { slot = slot; name = name.now; limit = R.limit reader }) value desk.old desk.new) }
     ensures known { IfOk result (R.known reader) }
-    ensures err { IfErr result (DecidesEarly D.counts D.steady D.seen T.text R.Status.faults.no_input
+    ensures err { IfErr result (DecidesEarly D.counts D.steady D.seen T.text R.Status.faults
         (R.kind reader) (record { slot = slot; name = name.now; limit = R.limit reader })
         desk.old desk.new) }
     ensures counted { CountsFaults D.counts D.steady desk.old desk.new }
 {
     let mut reader = reader;
     match fill(alloc, desk, slot, name, &mut reader) {
-        Ok(()) => {}
-        Err(Unfilled::NoFile) => {
+        Ok(true) => {}
+        Ok(false) => {
             let report = report::no_input(alloc, slot);
             return Err(early(alloc, R::Status::no_input(), report));
         }
-        Err(Unfilled::Failed) => return Err(Decision::Unread(slot)),
-        Err(Unfilled::NoMemory) => return Err(Decision::NoMemory),
+        Err(DeskFault::Failed) => return Err(Decision::Unread(slot)),
+        Err(DeskFault::NoMemory) => return Err(Decision::NoMemory),
     }
     reader.cut();
     match reader.end() {

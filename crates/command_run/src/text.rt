@@ -1,7 +1,7 @@
 //! Texts that are read, and texts that are written.
 ghost use Rattle.std.specs.Prelude.{◌≡◌, ◌≤◌, ◌+◌, ◌^◌, ◌++◌, [], List, ℕ, Result, length, take, IfOk, IfErr, OnOk, OnErr, IsTrue, IsErrOf};
 ghost use Rattle.tdm_desk.specs.Seen.{output_is_open, written, PrefixWritten};
-ghost use Rattle.tdm_desk.specs.Counts.{CountsFaults, WritingFailed};
+ghost use Rattle.tdm_desk.specs.Counts.{CountsFaults, CountsOnlyWriting, WritingFailed};
 ghost use Rattle.command_run.specs.Inputs.{TextKind};
 ghost use Rattle.command_run.specs.Faulty.{IsFaultOf};
 
@@ -38,33 +38,40 @@ pub trait TextReader: Drop {
     // what else is known of a value that a text says
     ghost known: { Self → Self.Value → Type 0 };
 
-    // what the reader was fed so far
-    ghost fed: { Self → List ℕ };
+    // the bytes that the reader may have been fed so far
+    ghost is_at: { Self → List ℕ → Type 0 };
+
+    // how many bytes it was fed
+    ghost fed: { Self → ℕ };
 
     /// The most bytes that a text may have. One that is longer is refused, whatever is behind one byte more.
     fn limit(&self) -> u64
         ensures same { result ≡ limit self.now }
         ensures small { result ≤ 2 ^ 30 };
 
-    /// A text that is cut one byte past the limit says what the whole text says. Nothing is done.
+    /// A text that is longer than the limit is refused, and cut one byte past the limit it says what the whole says.
+    /// Nothing is done.
     fn cut(&self)
-        ensures { (text : List ℕ) → (kind self.now).says (take (limit self.now + 1) text)
-            ≡ (kind self.now).says text };
+        ensures same { (text : List ℕ) → (kind self.now).says (take (limit self.now + 1) text)
+            ≡ (kind self.now).says text }
+        ensures within { (text : List ℕ) (value : Self.Value) → (kind self.now).says text ≡ Ok value
+            → length text ≤ limit self.now };
 
     /// Takes the next bytes of the text. After want of memory it may not be fed again.
     fn feed(&mut self, piece: &[u8]) -> Result<(), AllocError>
-        requires { length (fed self.old) + length piece.now ≤ limit self.old + 1 }
-        ensures fed { OnOk result (fed self.new ≡ fed self.old ++ piece.now) }
+        requires { fed self.old + length piece.now ≤ limit self.old + 1 }
+        ensures at { OnOk result ((text : List ℕ) → is_at self.old text → is_at self.new (text ++ piece.now)) }
+        ensures fed { OnOk result (fed self.new ≡ fed self.old + length piece.now) }
         ensures kind { kind self.new ≡ kind self.old }
         ensures known { (value : Self.Value) → known self.new value → known self.old value }
         ensures limit { limit self.new ≡ limit self.old };
 
     /// What the text that it was fed says.
     fn end(self) -> Result<Self::Value, TextFault<Self::Refusal>>
-        requires { length (fed self) ≤ limit self + 1 }
-        ensures ok { IfOk result (λ value. (kind self).says (fed self) ≡ Ok value) }
+        ensures ok { IfOk result (λ value. (text : List ℕ) → is_at self text → (kind self).says text ≡ Ok value) }
         ensures known { IfOk result (known self) }
-        ensures fault { IfErr result (IsFaultOf ((kind self).says (fed self))) };
+        ensures fault { IfErr result (λ fault. (text : List ℕ) → is_at self text
+            → IsFaultOf ((kind self).says text) fault) };
 
     /// The status of a run whose text is refused.
     fn status() -> Self::Status
@@ -81,11 +88,13 @@ pub trait OutputText: Drop {
     ghost text: { Self → List ℕ };
 
     /// Adds the text to the file of an open output. After a fault a first part of it was added, and the slot stays open.
+    /// A fault of the desk is answered as it came, and no call is tried again.
     fn write<D: Desk>(&self, desk: &mut D, slot: OutSlot) -> Result<(), DeskFault>
         requires { IsTrue (output_is_open slot (D.seen desk.old)) }
         ensures ok { OnOk result (D.seen desk.new ≡ written slot (text self.now) (D.seen desk.old)) }
         ensures err { OnErr result (PrefixWritten slot (text self.now) (D.seen desk.old) (D.seen desk.new)) }
         ensures failed { IsErrOf result DeskFault.Failed →
             WritingFailed D.counts D.steady desk.old desk.new }
+        ensures own { CountsOnlyWriting D.counts result desk.old desk.new }
         ensures counted { CountsFaults D.counts D.steady desk.old desk.new };
 }

@@ -1,10 +1,10 @@
 //! A small kind of text and small statuses, for tests: a letter is a text of one byte.
-ghost use Rattle.std.specs.Prelude.{◌≡◌, ◌<◌, ◌≤◌, ℕ, List, [], length, map, string_bytes, take, IfOk};
+ghost use Rattle.std.specs.Prelude.{◌≡◌, ◌<◌, ◌≤◌, ℕ, List, [], length, map, string_bytes, take, Ok, IfOk};
 ghost use Rattle.command_run.specs.Outcome.{outcome_of};
 ghost use Rattle.command_run.specs.Decision.{Decides};
 ghost use Rattle.command_run.specs.Ends.{RunEnds};
 ghost use Rattle.command_run.specs.Toy.{letters, letter_of, swapped, SwapsWith, Swaps, letter_files, second_file};
-ghost use Rattle.command_run.specs.declared.toy.Mood.TheVariants.{Fine, Refused, NoInput};
+ghost use Rattle.command_run.specs.declared.toy.Mood.TheVariants.{Fine, Refused};
 
 use crate::concluding::conclude;
 use crate::outcome::{Decision, Prepared, decided};
@@ -35,6 +35,8 @@ impl RunStatus for Mood {
       write_fault = mood.WriteFault;
       out_of_memory = mood.OutOfMemory;
     } };
+
+    fn apart() {}
 
     fn no_input() -> Mood {
         Mood::NoInput
@@ -72,7 +74,8 @@ impl LetterReader {
 
 /// Two bytes say whether a text is a letter.
 fn two_bytes_say_it()
-    ensures { (text : List ℕ) → letter_of (take 2 text) ≡ letter_of text }
+    ensures same { (text : List ℕ) → letter_of (take 2 text) ≡ letter_of text }
+    ensures within { (text : List ℕ) (letter : ℕ) → letter_of text ≡ Ok letter → length text ≤ 1 }
 {}
 
 impl TextReader for LetterReader {
@@ -84,13 +87,15 @@ impl TextReader for LetterReader {
 
     type Refusal = u8;
 
-    ghost kind = { λ _. letters mood.Fine mood.Refused mood.NoInput };
+    ghost kind = { λ _. letters mood.Refused };
 
     ghost limit = { λ _. 1 };
 
     ghost known = { λ _ letter. letter < 256 };
 
-    ghost fed = { λ reader. reader.bytes.items };
+    ghost is_at = { λ reader text. reader.bytes.items ≡ text };
+
+    ghost fed = { λ reader. length reader.bytes.items };
 
     fn limit(&self) -> u64 {
         1
@@ -138,7 +143,7 @@ impl OutputText for Bytes {
 
 /// The two letters behind one another, once in each of two files.
 fn swap_letters(alloc: Global, first: u8, second: u8) -> Result<Prepared<Mood, Bytes>, AllocError>
-    ensures { IfOk result (λ prepared. outcome_of ⟦<Bytes as OutputText>⟧.text 2 prepared ≡ swapped Fine Refused NoInput first second) }
+    ensures { IfOk result (λ prepared. outcome_of ⟦<Bytes as OutputText>⟧.text 2 prepared ≡ swapped Fine first second) }
 {
     let mut texts = Vec::new(alloc);
     texts.push(Bytes {
@@ -156,8 +161,8 @@ fn swap_letters(alloc: Global, first: u8, second: u8) -> Result<Prepared<Mood, B
 
 /// Reads the second letter.
 fn read_second<D: Desk>(alloc: Global, desk: &mut D, first: u8) -> Decision<Mood, Bytes>
-    ensures { Decides D.counts D.steady D.seen ⟦<Bytes as OutputText>⟧.text NoInput 1 second_file
-        (SwapsWith Fine Refused NoInput first) desk.old desk.new result }
+    ensures { Decides D.counts D.steady D.seen ⟦<Bytes as OutputText>⟧.text ⟦<Mood as RunStatus>⟧.faults 1 second_file
+        (SwapsWith Fine Refused ⟦<Mood as RunStatus>⟧.faults first) desk.old desk.new result }
 {
     match read_input(alloc, desk, InSlot::In1, "b", LetterReader::new(alloc)) {
         Ok(second) => decided(swap_letters(alloc, first, second)),
@@ -167,8 +172,8 @@ fn read_second<D: Desk>(alloc: Global, desk: &mut D, first: u8) -> Decision<Mood
 
 /// Reads the two letters.
 fn read_both<D: Desk>(alloc: Global, desk: &mut D) -> Decision<Mood, Bytes>
-    ensures { Decides D.counts D.steady D.seen ⟦<Bytes as OutputText>⟧.text NoInput 0 letter_files
-        (Swaps Fine Refused NoInput) desk.old desk.new result }
+    ensures { Decides D.counts D.steady D.seen ⟦<Bytes as OutputText>⟧.text ⟦<Mood as RunStatus>⟧.faults 0 letter_files
+        (Swaps Fine Refused ⟦<Mood as RunStatus>⟧.faults) desk.old desk.new result }
 {
     match read_input(alloc, desk, InSlot::In0, "a", LetterReader::new(alloc)) {
         Ok(first) => read_second(alloc, desk, first),
@@ -180,7 +185,7 @@ fn read_both<D: Desk>(alloc: Global, desk: &mut D) -> Decision<Mood, Bytes>
 pub fn swap<D: Desk>(alloc: Global, desk: &mut D, outputs: &[String]) -> Mood
     requires { 2 ≤ length outputs.now }
     ensures { RunEnds D.counts D.steady D.seen ⟦<Mood as RunStatus>⟧.faults letter_files (map string_bytes outputs.now)
-        (Swaps Fine Refused NoInput) desk.old desk.new result }
+        (Swaps Fine Refused ⟦<Mood as RunStatus>⟧.faults) desk.old desk.new result }
 {
     let decision = read_both(alloc, desk);
     conclude(alloc, desk, decision, outputs)

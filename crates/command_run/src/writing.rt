@@ -1,7 +1,7 @@
 //! Writing the outputs in order, and saying the report behind them.
 ghost use Rattle.std.specs.Prelude.{◌≡◌, ◌≤◌, ◌<◌, ◌+◌, ◌-◌, [], ◌∷◌, length, map, string_bytes, IsFalse, OnOk, OnErr, IsErrOf};
 ghost use Rattle.tdm_desk.specs.Seen.{output_is_open};
-ghost use Rattle.tdm_desk.specs.Counts.{CountsFaults, WritingFailed};
+ghost use Rattle.tdm_desk.specs.Counts.{CountsFaults, CountsOnlyWriting, WritingFailed};
 ghost use Rattle.command_run.specs.Slots.{out_place, OnlyWrites, AreClosedFrom};
 ghost use Rattle.command_run.specs.Outputs.{Leaves, LeavesBegun, PutsOut};
 
@@ -34,6 +34,7 @@ fn write_file<D: Desk, T: OutputText>(
     ensures closed { OnOk result (IsFalse (output_is_open slot (D.seen desk.new))) }
     ensures failed { IsErrOf result DeskFault.Failed →
         WritingFailed D.counts D.steady desk.old desk.new }
+    ensures own { CountsOnlyWriting D.counts result desk.old desk.new }
     ensures counted { CountsFaults D.counts D.steady desk.old desk.new }
 {
     if let Err(fault) = desk.create(slot, name) {
@@ -65,6 +66,7 @@ fn write_files<D: Desk, T: OutputText>(
     ensures closed { OnOk result (AreClosedFrom done (done + length texts.now) (D.seen desk.new)) }
     ensures failed { IsErrOf result DeskFault.Failed →
         WritingFailed D.counts D.steady desk.old desk.new }
+    ensures own { CountsOnlyWriting D.counts result desk.old desk.new }
     ensures counted { CountsFaults D.counts D.steady desk.old desk.new }
 {
     if texts.is_empty() {

@@ -5,7 +5,7 @@ use Rattle.std.proofs.lemmas.List.Elements.{All-map}
 use Rattle.tdm_desk.specs.declared.plan.Plan.{Plan}
 use Rattle.tdm_desk.specs.declared.memory_desk.MemoryDesk.{MemoryDesk}
 use Rattle.tdm_desk.specs.declared.slots.InSlot.{InSlot}
-use Rattle.tdm_desk.specs.Counts.{Counts, CountsFaults, ReadingFailed, WritingFailed, ReadCounted, WriteCounted, read_faults, write_faults}
+use Rattle.tdm_desk.specs.Counts.{Counts, CountsFaults, ReadingFailed, WritingFailed, read_counted, write_counted, read_faults, write_faults}
 use Rattle.tdm_desk.proofs.CountLaws.{after_read_fault, after_write_fault, read_fault_failed, write_fault_failed}
 use Rattle.tdm_desk.specs.Plan.{fails_next, after_call, after_reading, after_writing, AllCame, NoneToCome}
 
@@ -67,19 +67,19 @@ within_plan plan later known count bytes most within is =
 -- ---- the calls of a desk in memory
 
 module _ (before after : MemoryDesk) where
-  pub reading_counted : (slot : InSlot) → fails_next before.plan.reading ≡ true → ReadCounted slot before.faults after.faults
+  pub reading_counted : (slot : InSlot) → fails_next before.plan.reading ≡ true → after.faults ≡ read_counted slot before.faults
       → CountsFaults (λ (d : MemoryDesk). d.faults) (λ (d : MemoryDesk). NoneToCome d.plan) before after
   reading_counted slot fails counted = after_read_fault (λ (d : MemoryDesk). d.faults) (λ (d : MemoryDesk). NoneToCome d.plan) before after (reading_unsteady before.plan fails) slot counted
 
-  pub reading_failed : (slot : InSlot) → fails_next before.plan.reading ≡ true → ReadCounted slot before.faults after.faults
+  pub reading_failed : (slot : InSlot) → fails_next before.plan.reading ≡ true → after.faults ≡ read_counted slot before.faults
       → ReadingFailed (λ (d : MemoryDesk). d.faults) (λ (d : MemoryDesk). NoneToCome d.plan) slot before after
   reading_failed slot fails counted = read_fault_failed (λ (d : MemoryDesk). d.faults) (λ (d : MemoryDesk). NoneToCome d.plan) before after (reading_unsteady before.plan fails) slot counted
 
-  pub writing_counted : fails_next before.plan.writing ≡ true → WriteCounted before.faults after.faults
+  pub writing_counted : fails_next before.plan.writing ≡ true → after.faults ≡ write_counted before.faults
       → CountsFaults (λ (d : MemoryDesk). d.faults) (λ (d : MemoryDesk). NoneToCome d.plan) before after
   writing_counted fails counted = after_write_fault (λ (d : MemoryDesk). d.faults) (λ (d : MemoryDesk). NoneToCome d.plan) before after (writing_unsteady before.plan fails) counted
 
-  pub writing_failed : fails_next before.plan.writing ≡ true → WriteCounted before.faults after.faults
+  pub writing_failed : fails_next before.plan.writing ≡ true → after.faults ≡ write_counted before.faults
       → WritingFailed (λ (d : MemoryDesk). d.faults) (λ (d : MemoryDesk). NoneToCome d.plan) before after
   writing_failed fails counted = write_fault_failed (λ (d : MemoryDesk). d.faults) (λ (d : MemoryDesk). NoneToCome d.plan) before after (writing_unsteady before.plan fails) counted
 

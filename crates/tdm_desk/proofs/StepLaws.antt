@@ -4,7 +4,7 @@ use Rattle.std.proofs.lemmas.List.{take-append-le, take_at, drop_at, take_min, t
 use Rattle.tdm_desk.specs.declared.slots.InSlot.{InSlot}
 use Rattle.tdm_desk.specs.declared.slots.OutSlot.{OutSlot}
 use Rattle.tdm_desk.specs.Files.{Bytes}
-use Rattle.tdm_desk.specs.Seen.{PrefixWritten, PrefixSaid, Seen, taken, written, said, output_is_open, input_is_open}
+use Rattle.tdm_desk.specs.Seen.{PrefixWritten, Seen, taken, written, said, output_is_open, input_is_open}
 use Rattle.tdm_desk.proofs.SeenLaws.{written-written, said-both, output_is_open-written, input_is_open-taken}
 
 -- the first bytes, and then the first of the rest
@@ -64,12 +64,3 @@ prefix_written_longer slot bytes more before after some =
 pub prefix_written_further : (slot : OutSlot) (bytes more : Bytes) (before between after : Seen) → between ≡ written slot bytes before → PrefixWritten slot more between after → PrefixWritten slot (bytes ++ more) before after
 prefix_written_further slot bytes more before between after first some =
     (length bytes + some.0, some.1 ∙ ap (written slot _) first ∙ written-written slot _ _ before ∙ ap (λ b. written slot b before) (take-further some.0 bytes more))
-
-pub prefix_said_longer : (bytes more : Bytes) (before after : Seen) → PrefixSaid bytes before after → PrefixSaid (bytes ++ more) before after
-prefix_said_longer bytes more before after some =
-    let n = take-longer some.0 bytes more in
-    (n.0, some.1 ∙ ap (λ b. said b before) n.1)
-
-pub prefix_said_further : (bytes more : Bytes) (before between after : Seen) → between ≡ said bytes before → PrefixSaid more between after → PrefixSaid (bytes ++ more) before after
-prefix_said_further bytes more before between after first some =
-    (length bytes + some.0, some.1 ∙ ap (said _) first ∙ said-both _ _ before ∙ ap (λ b. said b before) (take-further some.0 bytes more))

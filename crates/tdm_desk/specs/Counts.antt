@@ -1,5 +1,5 @@
 -- The counts of a desk's faults, and what may be known of them over any number of its calls.
-use Rattle.std.specs.Prelude.{◌≡◌, ℕ, ◌+◌, ◌-◌, ◌^◌, ◌≤◌, min, Result, Ok, Err, refl}
+use Rattle.std.specs.Prelude.{◌≡◌, ℕ, ◌+◌, ◌-◌, ◌^◌, ◌≤◌, min, nat_lt, if◌then◌else◌, Result, Ok, Err, refl}
 use Rattle.std.specs.Coded.{Coded, code_by, coded×, coded_ℕ}
 use Rattle.tdm_desk.specs.declared.calls.DeskFault.{DeskFault}
 use Rattle.tdm_desk.specs.declared.calls.DeskFault.TheVariants.{Failed, NoMemory}
@@ -40,17 +40,17 @@ last_count = 2 ^ 64 - 1
 abbrev pub Rose : ℕ → ℕ → Type 0
 Rose before after = min (before + 1) last_count ≤ after
 
--- one more fault of an input was counted, or its count stands where it stops
-pub record ReadCounted (slot : InSlot) (before after : Counts) : Type 0 where
-  pub only : after ≡ with_read_faults slot (read_faults slot after) before
-  pub kept : read_faults slot before ≤ read_faults slot after
-  pub rose : Rose (read_faults slot before) (read_faults slot after)
+-- one more, or the same where a count stops
+unfoldable pub one_more : ℕ → ℕ
+one_more faults = if nat_lt faults last_count then faults + 1 else faults
 
--- one more fault of what is written or said was counted, or its count stands where it stops
-pub record WriteCounted (before after : Counts) : Type 0 where
-  pub only : after ≡ with_write_faults (write_faults after) before
-  pub kept : write_faults before ≤ write_faults after
-  pub rose : Rose (write_faults before) (write_faults after)
+-- the counts with one more fault of an input
+unfoldable pub read_counted : InSlot → Counts → Counts
+read_counted slot counts = with_read_faults slot (one_more (read_faults slot counts)) counts
+
+-- the counts with one more fault of what is written or said
+unfoldable pub write_counted : Counts → Counts
+write_counted counts = with_write_faults (one_more (write_faults counts)) counts
 
 module _ {D : Type 0} (counts : D → Counts) (steady : D → Type 0) where
   -- from one state of a desk to a later one: no count fell, and a steady desk stayed steady and kept its counts
@@ -71,20 +71,20 @@ module _ {D : Type 0} (counts : D → Counts) (steady : D → Type 0) where
     pub unsteady : steady before → ⊥
 
 module _ {D : Type 0} (counts : D → Counts) where
-  -- a fault of an input changed no count but that of this input, and want of memory changed none
+  -- a fault of an input was counted once and changed no other count, and want of memory changed none
   abbrev pub CountsReadFault : InSlot → DeskFault → D → D → Type 0
   CountsReadFault slot NoMemory before after = counts after ≡ counts before
-  CountsReadFault slot Failed before after = (faults : ℕ) × (counts after ≡ with_read_faults slot faults (counts before))
+  CountsReadFault slot Failed before after = counts after ≡ read_counted slot (counts before)
 
   -- the same of a call that answers, where every count stands if there was no fault
   abbrev pub CountsOnlyReading : {A : Type 0} → InSlot → Result A DeskFault → D → D → Type 0
   CountsOnlyReading slot (Ok answer) before after = counts after ≡ counts before
   CountsOnlyReading slot (Err fault) before after = CountsReadFault slot fault before after
 
-  -- a fault of what is written or said changed no count but its own, and want of memory changed none
+  -- a fault of what is written or said was counted once and changed no other count, and want of memory changed none
   abbrev pub CountsWriteFault : DeskFault → D → D → Type 0
   CountsWriteFault NoMemory before after = counts after ≡ counts before
-  CountsWriteFault Failed before after = (faults : ℕ) × (counts after ≡ with_write_faults faults (counts before))
+  CountsWriteFault Failed before after = counts after ≡ write_counted (counts before)
 
   -- the same of a call that answers, where every count stands if there was no fault
   abbrev pub CountsOnlyWriting : {A : Type 0} → Result A DeskFault → D → D → Type 0

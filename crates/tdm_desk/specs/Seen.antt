@@ -1,5 +1,5 @@
 -- What is seen of a desk, and what each of its calls does to that.
-use Rattle.std.specs.Prelude.{◌≡◌, ℕ, Bool, true, false, [], ◌++◌, Option, Some, None, take, drop, option_map}
+use Rattle.std.specs.Prelude.{◌≡◌, ℕ, ◌<◌, length, Bool, true, false, [], ◌++◌, Option, Some, None, take, drop, option_map}
 use Rattle.tdm_desk.specs.declared.slots.InSlot.{InSlot}
 use Rattle.tdm_desk.specs.declared.slots.OutSlot.{OutSlot}
 use Rattle.tdm_desk.specs.declared.slots.Slots.{Slots}
@@ -121,6 +121,6 @@ SomeTaken slot before after = (count : ℕ) × (after ≡ taken slot count befor
 abbrev pub PrefixWritten : OutSlot → Bytes → Seen → Seen → Type 0
 PrefixWritten slot bytes before after = (count : ℕ) × (after ≡ written slot (take count bytes) before)
 
--- a prefix of these bytes was said, which may be empty
+-- a prefix of these bytes was said, which may be empty, and not all of them
 abbrev pub PrefixSaid : Bytes → Seen → Seen → Type 0
-PrefixSaid bytes before after = (count : ℕ) × (after ≡ said (take count bytes) before)
+PrefixSaid bytes before after = (count : ℕ) × (count < length bytes) × (after ≡ said (take count bytes) before)

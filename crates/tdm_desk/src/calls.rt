@@ -15,7 +15,7 @@ use thiserror::Error;
 /// Why a call of a desk did not do its work.
 #[derive(Debug, Drop, Error)]
 pub enum DeskFault {
-    /// The outside refused. The desk's count of such faults rose, or stands at its last value.
+    /// The outside refused. The desk's count of such faults rose by one, or stands at its last value.
     #[error("the desk failed")]
     Failed,
     /// Memory was wanting.
@@ -42,7 +42,7 @@ pub trait Desk {
     // which slots are open, and the bytes, if the desk tells them
     ghost seen: { Self → Seen };
 
-    // the desk never fails again
+    // no later call fails; memory may still be wanting
     ghost steady: { Self → Type 0 };
 
     // which later calls fail and how much one of them moves, if the desk knows

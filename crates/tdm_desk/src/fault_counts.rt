@@ -1,6 +1,6 @@
 //! How many faults a desk has met.
-ghost use Rattle.std.specs.Prelude.{◌≡◌, ◌≤◌};
-ghost use Rattle.tdm_desk.specs.Counts.{Rose, no_faults, ReadCounted, WriteCounted};
+ghost use Rattle.std.specs.Prelude.{◌≡◌};
+ghost use Rattle.tdm_desk.specs.Counts.{no_faults, one_more, read_counted, write_counted};
 
 use crate::slots::{InSlot, Slots};
 use std::marker::Model;
@@ -39,7 +39,7 @@ impl FaultCounts {
 
     /// Counts a fault of an input.
     pub fn count_read(&mut self, slot: InSlot)
-        ensures { ReadCounted slot self.old self.new }
+        ensures { self.new ≡ read_counted slot self.old }
     {
         let place = slot.place();
         let count = raised(*self.reading.get(place));
@@ -48,17 +48,16 @@ impl FaultCounts {
 
     /// Counts a fault of what is written or said.
     pub fn count_write(&mut self)
-        ensures { WriteCounted self.old self.new }
+        ensures { self.new ≡ write_counted self.old }
     {
         self.writing = raised(self.writing);
     }
 }
 
 /// One more, or the same where the count stands at its last value.
-#[tactic(auto, unfolding(crate::specs::Counts::last_count))]
+#[tactic(auto, unfolding(crate::specs::Counts::one_more, crate::specs::Counts::last_count))]
 fn raised(count: u64) -> u64
-    ensures kept { count ≤ result }
-    ensures rose { Rose count result }
+    ensures { result ≡ one_more count }
 {
-    count.saturating_add(1)
+    if count < u64::MAX { count + 1 } else { count }
 }

@@ -4,7 +4,7 @@ ghost use Rattle.std.specs.Option.{option_copied};
 ghost use Rattle.std.specs.FinMap as map;
 ghost use Rattle.tdm_desk.specs.Files.{with_file};
 ghost use Rattle.tdm_desk.specs.Memory.{empty_memory, seen_in_memory};
-ghost use Rattle.tdm_desk.specs.Counts.{no_faults, ReadCounted, WriteCounted};
+ghost use Rattle.tdm_desk.specs.Counts.{no_faults, read_counted, write_counted};
 ghost use Rattle.tdm_desk.specs.Plan.{fails_next, after_reading, after_writing, NoneToCome};
 
 use crate::calls::{Desk, DeskFault};
@@ -99,7 +99,7 @@ impl MemoryDesk {
         ensures answer { result ≡ fails_next self.old.plan.reading }
         ensures memory { self.new.memory ≡ self.old.memory }
         ensures plan { self.new.plan ≡ after_reading self.old.plan }
-        ensures met { IsTrue result → ReadCounted slot self.old.faults self.new.faults }
+        ensures met { IsTrue result → self.new.faults ≡ read_counted slot self.old.faults }
         ensures not_met { result ≡ false → self.new.faults ≡ self.old.faults }
     {
         let fails = self.plan.reading.next_call();
@@ -114,7 +114,7 @@ impl MemoryDesk {
         ensures answer { result ≡ fails_next self.old.plan.writing }
         ensures memory { self.new.memory ≡ self.old.memory }
         ensures plan { self.new.plan ≡ after_writing self.old.plan }
-        ensures met { IsTrue result → WriteCounted self.old.faults self.new.faults }
+        ensures met { IsTrue result → self.new.faults ≡ write_counted self.old.faults }
         ensures not_met { result ≡ false → self.new.faults ≡ self.old.faults }
     {
         let fails = self.plan.writing.next_call();

@@ -27,7 +27,7 @@ pub fn write_whole<D: Desk>(desk: &mut D, slot: OutSlot, piece: &[u8]) -> Result
 
 /// Says all of `piece` to the user. An empty piece makes no call of the desk.
 ///
-/// After a fault a prefix of the piece was said.
+/// After a fault a prefix of the piece was said, and not all of it.
 pub fn say_whole<D: Desk>(desk: &mut D, piece: &[u8]) -> Result<(), DeskFault>
     ensures ok { OnOk result (D.seen desk.new ≡ said piece.now (D.seen desk.old)) }
     ensures err { OnErr result (PrefixSaid piece.now (D.seen desk.old) (D.seen desk.new)) }

@@ -11,7 +11,7 @@ returns-in-Err-Failed-clause-ends g c =
     let part = c.in-Err-Failed.ensures.err in
     inr (record {
       more = take part.0 c.args.report.now;
-      says = says_said _ _ _ part.1;
+      says = says_said _ _ _ part.2;
       answers = inl (refl, (rw c.in-Err-Failed.field-0-is at c.in-Err-Failed.ensures.failed) refl);
     })
 
@@ -20,7 +20,7 @@ returns-in-Err-NoMemory-clause-ends g c =
     let part = c.in-Err-NoMemory.ensures.err in
     inr (record {
       more = take part.0 c.args.report.now;
-      says = says_said _ _ _ part.1;
+      says = says_said _ _ _ part.2;
       answers = inr refl;
     })
 
