@@ -9,7 +9,7 @@ use Rattle.tdm_desk.specs.Counts.{Counts}
 use Rattle.command_run.specs.declared.outcome.Decision.{Decision}
 use Rattle.command_run.specs.declared.outcome.Decision.TheVariants as decision
 use Rattle.command_run.specs.Slots.{place}
-use Rattle.command_run.specs.Outcome.{Faults, Outcome, outcome_of}
+use Rattle.command_run.specs.Outcome.{Faults, Outcome}
 use Rattle.command_run.specs.Inputs.{Input, Content, text, Holds, TextKind, FromText, FromInput}
 use Rattle.command_run.specs.Filled.{FilledFrom}
 use Rattle.command_run.specs.Decision.{OnlyReads, Had, EarlyShows, DecidesEarly, IsSaid}

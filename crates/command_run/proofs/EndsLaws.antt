@@ -9,7 +9,7 @@ use Rattle.tdm_desk.specs.Counts.{Counts, CountsFaults, write_counted}
 use Rattle.tdm_desk.proofs.CountLaws.{reading_failed_before, writing_failed_later}
 use Rattle.command_run.specs.declared.outcome.Decision.{Decision}
 use Rattle.command_run.specs.declared.outcome.Decision.TheVariants as decision
-use Rattle.command_run.specs.Slots.{place, KeepsInputs, KeepsInputsBut}
+use Rattle.command_run.specs.Slots.{KeepsInputs}
 use Rattle.command_run.specs.Outcome.{Outcome, Faults, outcome_of, with_unread, HasFailed}
 use Rattle.command_run.specs.Inputs.{Input, Content, no_file, unreadable, text, Holds, HoldEach, unread}
 use Rattle.command_run.specs.Decision.{OnlyReads, IsCalledFor, Decides}

@@ -1,8 +1,7 @@
 -- What is known once the inputs decided, or could not be read.
-use Rattle.std.specs.Prelude.{◌≡◌, ℕ, ◌+◌, ◌-◌, ◌≤◌, List, [], ◌∷◌, length, Some, None, Ok}
+use Rattle.std.specs.Prelude.{◌≡◌, ℕ, ◌+◌, ◌-◌, ◌≤◌, List, [], length, Some, None, Ok}
 use Rattle.std.specs.Option.{ForSome}
 use Rattle.std.specs.FinMap.{get}
-use Rattle.tdm_desk.specs.declared.slots.InSlot.{InSlot}
 use Rattle.tdm_desk.specs.Files.{Bytes}
 use Rattle.tdm_desk.specs.Seen.{Seen, files_of, said_of}
 use Rattle.tdm_desk.specs.Counts.{Counts, CountsFaults, ReadingFailed, read_counted}

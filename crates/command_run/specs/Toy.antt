@@ -1,7 +1,6 @@
 -- A small command over a small kind of text, for tests: two letters are swapped. A letter is a text of one byte.
 use Rattle.std.specs.Prelude.{◌≡◌, ℕ, List, [], ◌∷◌, None, Result, Ok, Err, codes}
 use Rattle.tdm_desk.specs.declared.slots.InSlot.TheVariants.{In0, In1}
-use Rattle.tdm_desk.specs.Files.{Bytes}
 use Rattle.command_run.specs.Reports.{refused_report}
 use Rattle.command_run.specs.Outcome.{Faults, Outcome}
 use Rattle.command_run.specs.Inputs.{Input, Content, TextKind, ByInput, ByNone}

@@ -1,7 +1,7 @@
 -- What is known of a desk's counts over several calls.
 use Rattle.std.proofs.Common.{◌≡◌, ◌≤◌, ◌<◌, ℕ, ◌+◌, ◌∙◌, ◌⊎◌, inl, inr, refl, sym, ap, subst, arith}
 use Rattle.std.proofs.lemmas.Bool.{lt-ltb, le-ltb, cases_lt}
-use Rattle.std.specs.Prelude.{nat_lt, if◌then◌else◌}
+use Rattle.std.specs.Prelude.{if◌then◌else◌}
 use Rattle.tdm_desk.specs.declared.calls.DeskFault.{DeskFault}
 use Rattle.tdm_desk.specs.declared.calls.DeskFault.TheVariants.{Failed, NoMemory}
 use Rattle.tdm_desk.specs.declared.slots.InSlot.{InSlot}

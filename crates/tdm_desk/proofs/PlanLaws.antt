@@ -1,6 +1,6 @@
 -- What is known of a plan of failures from call to call.
-use Rattle.std.proofs.Common.{◌≡◌, ◌<◌, ◌≤◌, ◌-◌, min, ℕ, suc, Bool, true, false, List, [], ◌∷◌, length, refl, sym, ap, ◌∙◌, subst, arith}
-use Rattle.std.specs.Prelude.{All, ◌==◌, ◌||◌, Some}
+use Rattle.std.proofs.Common.{◌≡◌, ◌≤◌, ◌-◌, min, ℕ, suc, true, false, List, [], ◌∷◌, refl, sym, ap, ◌∙◌, subst, arith}
+use Rattle.std.specs.Prelude.{◌==◌, ◌||◌, Some}
 use Rattle.std.proofs.lemmas.List.Elements.{All-map}
 use Rattle.tdm_desk.specs.declared.plan.Plan.{Plan}
 use Rattle.tdm_desk.specs.declared.memory_desk.MemoryDesk.{MemoryDesk}

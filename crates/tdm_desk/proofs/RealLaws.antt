@@ -1,5 +1,5 @@
 -- Open slots and counts of a desk of real files.
-use Rattle.std.proofs.Common.{◌≡◌, ◌≤◌, ℕ, Bool, true, false, refl, sym, ap, subst, ◌∙◌, arith}
+use Rattle.std.proofs.Common.{◌≡◌, ◌≤◌, ℕ, true, false, refl, sym, ap, ◌∙◌, arith}
 use Rattle.std.specs.Prelude.{Option, Some, None, is_some}
 use Rattle.tdm_desk.specs.declared.slots.InSlot.{InSlot}
 use Rattle.tdm_desk.specs.declared.slots.OutSlot.{OutSlot}
@@ -10,7 +10,7 @@ use Rattle.tdm_desk.specs.Files.{Bytes, Name, Files}
 use Rattle.tdm_desk.specs.Seen.{opened, input_closed, taken, created, output_closed, written, said, input_is_open, output_is_open, files_of, rest_of}
 use Rattle.tdm_desk.specs.Counts.{Counts, CountsFaults, read_faults, write_faults}
 use Rattle.tdm_desk.specs.RealDesk.{RealDesk, seen_of_real, counts_of_real, never}
-use Rattle.tdm_desk.proofs.SlotLaws.{at-put, put-at, put-put, at-map, map-put}
+use Rattle.tdm_desk.proofs.SlotLaws.{put-at, put-put, at-map, map-put}
 
 -- ---- the slots of files
 

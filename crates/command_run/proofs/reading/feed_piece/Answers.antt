@@ -1,4 +1,4 @@
-use Rattle.std.proofs.Common.{sym, ◌∙◌, arith, length-take}
+use Rattle.std.proofs.Common.{sym, ◌∙◌}
 use Rattle.std.proofs.lemmas.Result.{err_from_is_err_and}
 use Rattle.tdm_desk.proofs.SeenLaws.{taken-none}
 use Rattle.command_run.proofs.reading.feed_piece.Goals as goal

@@ -1,5 +1,4 @@
-use Rattle.std.proofs.Common.{◌∙◌, sym, ap, arith, length}
-use Rattle.tdm_desk.specs.declared.plan.Plan.{Plan}
+use Rattle.std.proofs.Common.{◌∙◌, sym}
 use Rattle.tdm_desk.proofs.PlanLaws.{writing_counted, writing_failed, writing_worked_in_memory}
 use Rattle.tdm_desk.proofs.memory_desk.MemoryDeskDesk.create.Goals as goal
 

@@ -1,5 +1,4 @@
-use Rattle.std.proofs.Common.{◌∙◌, sym, ap, arith, length}
-use Rattle.tdm_desk.specs.declared.plan.Plan.{Plan}
+use Rattle.std.proofs.Common.{◌∙◌, sym}
 use Rattle.tdm_desk.proofs.PlanLaws.{reading_counted, reading_failed, reading_worked_in_memory}
 use Rattle.tdm_desk.proofs.memory_desk.MemoryDeskDesk.open_input.Goals as goal
 
