@@ -28,7 +28,7 @@ pub returns-in-Ok-clause-slots : goal.returns-in-Ok-clause-slots
 returns-in-Ok-clause-slots g c = slots-said _ _ _ c.in-Ok.ensures.ok
 
 pub returns-in-Err-Failed-clause-slots : goal.returns-in-Err-Failed-clause-slots
-returns-in-Err-Failed-clause-slots g c = slots-said _ _ _ c.in-Err-Failed.ensures.err.1
+returns-in-Err-Failed-clause-slots g c = slots-said _ _ _ c.in-Err-Failed.ensures.err.2
 
 pub returns-in-Err-NoMemory-clause-slots : goal.returns-in-Err-NoMemory-clause-slots
-returns-in-Err-NoMemory-clause-slots g c = slots-said _ _ _ c.in-Err-NoMemory.ensures.err.1
+returns-in-Err-NoMemory-clause-slots g c = slots-said _ _ _ c.in-Err-NoMemory.ensures.err.2
