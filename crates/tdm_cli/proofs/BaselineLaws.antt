@@ -183,9 +183,9 @@ module _ (board : Board) (is : IsBoard board) (trees : List (List ℕ)) (base : 
 
 -- ---- what a baseline says of the board
 
--- baseline trees have the same wires together
-pub total-unique : (board : Board) (xs ys : List (List ℕ)) → AreBaseTrees board xs → AreBaseTrees board ys → sum_by length xs ≡ sum_by length ys
-total-unique board xs ys s t = ap (sum_by length) (rows-same xs ys (s.nets ∙ sym t.nets) (λ k h. base-tree-unique board (source_of board k) (terminals_of board k) (tree_of xs k) (tree_of ys k) (s.each k (omega (arith, h, s.nets))) (t.each k (omega (arith, h, s.nets)))))
+-- there is one list of baseline trees
+pub base-trees-unique : (board : Board) (xs ys : List (List ℕ)) → AreBaseTrees board xs → AreBaseTrees board ys → xs ≡ ys
+base-trees-unique board xs ys s t = rows-same xs ys (s.nets ∙ sym t.nets) (λ k h. base-tree-unique board (source_of board k) (terminals_of board k) (tree_of xs k) (tree_of ys k) (s.each k (omega (arith, h, s.nets))) (t.each k (omega (arith, h, s.nets))))
   where
     rows-same : (xs ys : List (List ℕ)) → length xs ≡ length ys → ((k : ℕ) → k < length xs → tree_of xs k ≡ tree_of ys k) → xs ≡ ys
     rows-same [] [] count same = refl

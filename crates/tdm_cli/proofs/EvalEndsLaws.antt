@@ -1,5 +1,5 @@
 -- What each end of a run of `eval` says, and which reports of a read fault there are.
-use Rattle.std.proofs.Common.{◌≡◌, subst, inl, inr}
+use Rattle.std.proofs.Common.{◌≡◌, subst, inl, inr, ℕ}
 use Rattle.std.specs.Prelude.{◌↔◌}
 use Rattle.tdm_desk.specs.Files.{Name}
 use Rattle.tdm_desk.specs.Seen.{Seen, files_of}
@@ -52,10 +52,10 @@ module _ (before after : Seen) where
 
   -- ---- which input a read fault is reported of
 
-  pub route-reports : (name solution cert : Name) → RouteEnds before after name solution cert status.ReadFault → Says before after (read_fault_report 1)
-  route-reports name solution cert (inl ends) = ends
-  route-reports name solution cert (inr (board, is, inl ends)) = absurd ends
-  route-reports name solution cert (inr (board, is, inr (routing, proof, base, best, ends))) = absurd ends
+  pub route-reports : (name solution cert : Name) (rounds : ℕ) → RouteEnds before after name solution cert rounds status.ReadFault → Says before after (read_fault_report 1)
+  route-reports name solution cert rounds (inl ends) = ends
+  route-reports name solution cert rounds (inr (board, is, inl ends)) = absurd ends
+  route-reports name solution cert rounds (inr (board, is, inr (routing, proof, improved, ends))) = absurd ends
 
   pub judging-reports : (board : Board) (solution : Name) → JudgingEnds before after board solution status.ReadFault → Says before after (read_fault_report 2)
   judging-reports board solution (inl ends) = ends

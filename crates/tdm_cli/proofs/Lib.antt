@@ -15,3 +15,9 @@ pub mod EvalEndsLaws
 pub mod EvalPromiseLaws
 pub mod CheckEndsLaws
 pub mod CheckPromiseLaws
+pub mod NumberLaws
+pub mod LoadLimits
+pub mod SharedValues
+pub mod BestLaws
+mod ImprovedLaws
+pub mod RunningLaws

@@ -1,26 +1,22 @@
 -- What the end of a run says of the files when it began.
-use Rattle.std.proofs.Common.{◌≡◌, ◌⊎◌, ℕ, ◌<◌, ◌≤◌, List, [], ◌∷◌, length, refl, sym, ap, subst, ◌∙◌, inl, inr, arith, Contains}
+use Rattle.std.proofs.Common.{◌≡◌, ◌⊎◌, ℕ, ◌<◌, List, [], ◌∷◌, length, refl, sym, ap, subst, ◌∙◌, inl, inr, arith, Contains}
 use Rattle.std.specs.Prelude.{Some, None, Result, Ok, Err, option_map}
 use Rattle.std.specs.FinMap.{get}
 use Rattle.tdm_desk.specs.Files.{Bytes, Name, Files}
 use Rattle.tdm_desk.specs.Seen.{Seen, files_of}
 use Rattle.tdm_problem.specs.Board.{Board}
-use Rattle.tdm_problem.specs.Trees.{trees_of}
 use Rattle.contest_input.specs.declared.fault.BoardRefusal.{BoardRefusal}
 use Rattle.contest_input.specs.BoardText.{board_of}
 use Rattle.tdm_problem.specs.Value.{value_of}
 use Rattle.solution_text.specs.Text.{solution_text}
 use Rattle.solution_text.proofs.ReadsBack.{text_reads_back}
 use Rattle.solution_text.proofs.Size.{never_too_long}
-use Rattle.bound_cert.specs.Certificate.{Cert}
 use Rattle.bound_cert.specs.CertText.{cert_text}
 use Rattle.bound_cert.specs.Bound.{bound_of}
-use Rattle.bound_cert.specs.Floors.{IsHopFloor, IsShareFloor}
 use Rattle.bound_cert.proofs.CertReadsBack.{text_reads_back as cert_text_reads_back}
 use Rattle.bound_cert.proofs.CertSize.{never_too_long as cert_never_too_long}
 use Rattle.tdm_cli.specs.Reports.{route_report}
 use Rattle.tdm_cli.specs.TwoFiles.{with_two_files}
-use Rattle.tdm_cli.specs.Certified.{IsProof, IsBestCert}
 use Rattle.tdm_cli.specs.Settled.{IsSettled}
 use Rattle.tdm_cli.specs.declared.status.Status.{Status}
 use Rattle.tdm_cli.specs.declared.status.Status.TheVariants as status
@@ -29,7 +25,6 @@ use Rattle.tdm_cli.specs.Promises.{Describes, BoardCallsFor, CallsFor, IsOutside
 use Rattle.tdm_cli.specs.Input.{IsBoardFile}
 use Rattle.tdm_problem.specs.Legal.{AllConnectable}
 use Rattle.tdm_cli.specs.Baseline.{IsOverUseLimit}
-use Rattle.tdm_cli.proofs.BaselineLaws.{total-unique, sum-lengths-same}
 
 -- ---- the cause of each answer
 
@@ -52,11 +47,11 @@ board-calls files name status.NoInput calls = calls
 board-calls files name status.BoardRefused calls = calls
 board-calls files name _ calls = absurd calls
 
-module _ (before after : Seen) (name solution cert : Name) (files : Files) (told : files_of before ≡ Some files) where
+module _ (before after : Seen) (name solution cert : Name) (rounds : ℕ) (files : Files) (told : files_of before ≡ Some files) where
   described : (board : Board) → IsBoardFile before name board → Describes files name board
   described board is = is files told
 
-  nets-cause : (board : Board) → IsBoardFile before name board → (answer : Status) → NetsEnds before after board solution cert answer → IsOutsideFault answer ⊎ CallsFor files name answer
+  nets-cause : (board : Board) → IsBoardFile before name board → (answer : Status) → NetsEnds before after board solution cert rounds answer → IsOutsideFault answer ⊎ CallsFor files name answer
   nets-cause board is answer (inl obstacle) = by answer obstacle
     where
       by : (answer : Status) → ObstacleEnds before after board answer → IsOutsideFault answer ⊎ CallsFor files name answer
@@ -68,15 +63,15 @@ module _ (before after : Seen) (name solution cert : Name) (files : Files) (told
       by status.WriteFault ends = inl tt
       by status.OutOfMemory ends = inl tt
       by _ ends = absurd ends
-  nets-cause board is answer (inr (routing, proof, baseline, best, delivery)) = by answer delivery
+  nets-cause board is answer (inr (routing, proof, improved, delivery)) = by answer delivery
     where
       by : (answer : Status) → DeliveryEnds before after solution (solution_text routing) cert (cert_text proof) (route_report (value_of board routing) (bound_of board proof)) answer → IsOutsideFault answer ⊎ CallsFor files name answer
-      by status.Ok ends = inr (board, described board is, baseline.joined, λ trees base. omega (arith, total-unique board trees (trees_of routing) base baseline.base, sum-lengths-same routing, baseline.few))
+      by status.Ok ends = inr (board, described board is, improved.joined, improved.within)
       by status.WriteFault ends = inl tt
       by status.OutOfMemory ends = inl tt
       by _ ends = absurd ends
 
-  pub route-cause : (answer : Status) → RouteEnds before after name solution cert answer → IsOutsideFault answer ⊎ CallsFor files name answer
+  pub route-cause : (answer : Status) → RouteEnds before after name solution cert rounds answer → IsOutsideFault answer ⊎ CallsFor files name answer
   route-cause answer (inl ends) = by (board-cause before after name files told answer ends)
     where
       by : IsOutsideFault answer ⊎ BoardCallsFor files name answer → IsOutsideFault answer ⊎ CallsFor files name answer
@@ -136,8 +131,8 @@ module _ (files : Files) (name : Name) where
   one-status _ t h k = absurd h
 
 -- the answer is the status that the files call for, or shows a fault of the outside
-pub route-exact : (before after : Seen) (name solution cert : Name) (files : Files) → files_of before ≡ Some files → (answer : Status) → RouteEnds before after name solution cert answer → (called : Status) → CallsFor files name called → (answer ≡ called) ⊎ IsOutsideFault answer
-route-exact before after name solution cert files told answer ends called calls = by (route-cause before after name solution cert files told answer ends)
+pub route-exact : (before after : Seen) (name solution cert : Name) (rounds : ℕ) (files : Files) → files_of before ≡ Some files → (answer : Status) → RouteEnds before after name solution cert rounds answer → (called : Status) → CallsFor files name called → (answer ≡ called) ⊎ IsOutsideFault answer
+route-exact before after name solution cert rounds files told answer ends called calls = by (route-cause before after name solution cert rounds files told answer ends)
   where
     by : IsOutsideFault answer ⊎ CallsFor files name answer → (answer ≡ called) ⊎ IsOutsideFault answer
     by (inl fault) = inr fault
@@ -145,54 +140,33 @@ route-exact before after name solution cert files told answer ends called calls 
 
 -- ---- what Ok and completeness say
 
--- the better of two proofs is one
-pub best-proof : (board : Board) (cert : Cert) → IsBestCert board cert → IsProof board cert
-best-proof board cert best = by best.better
-  where
-    by : ((cert ≡ best.hop) × (bound_of board best.share ≤ bound_of board best.hop)) ⊎ ((cert ≡ best.share) × (bound_of board best.hop < bound_of board best.share)) → IsProof board cert
-    by (inl hop) = subst (IsProof board) (sym hop.0) best.is_hop.proof
-    by (inr share) = subst (IsProof board) (sym share.0) best.is_share.proof
-
--- its bound is at least both floors
-pub hop-floor : (board : Board) (cert : Cert) → IsBestCert board cert → (floor : ℕ) → IsHopFloor board floor → floor ≤ bound_of board cert
-hop-floor board cert best floor is = by best.better
-  where
-    by : ((cert ≡ best.hop) × (bound_of board best.share ≤ bound_of board best.hop)) ⊎ ((cert ≡ best.share) × (bound_of board best.hop < bound_of board best.share)) → floor ≤ bound_of board cert
-    by (inl hop) = omega (arith, best.is_hop.only_floor floor is, ap (bound_of board) hop.0)
-    by (inr share) = omega (arith, best.is_hop.only_floor floor is, ap (bound_of board) share.0, share.1)
-
-pub share-floor : (board : Board) (cert : Cert) → IsBestCert board cert → (floor : ℕ) → IsShareFloor board floor → floor ≤ bound_of board cert
-share-floor board cert best floor is = by best.better
-  where
-    by : ((cert ≡ best.hop) × (bound_of board best.share ≤ bound_of board best.hop)) ⊎ ((cert ≡ best.share) × (bound_of board best.hop < bound_of board best.share)) → floor ≤ bound_of board cert
-    by (inl hop) = omega (arith, best.is_share.only_floor floor is, ap (bound_of board) hop.0, hop.1)
-    by (inr share) = omega (arith, best.is_share.only_floor floor is, ap (bound_of board) share.0)
-
-pub route-written : (before after : Seen) (name solution cert : Name) (files : Files) → files_of before ≡ Some files → RouteEnds before after name solution cert status.Ok → IsSettled after → IsRouted files name solution cert before after
-route-written before after name solution cert files told (inl ends) settled = absurd ends
-route-written before after name solution cert files told (inr (board, is, inl obstacle)) settled = absurd obstacle
-route-written before after name solution cert files told (inr (board, is, inr (routing, proof, baseline, best, changes))) settled = record {
-  board = board;
-  described = is files told;
-  routing = routing;
-  legal = baseline.legal;
-  minimal = baseline.minimal;
-  baseline = baseline;
-  proof = proof;
-  best = best;
-  valid = (best-proof board proof best).valid;
-  lower = (best-proof board proof best).lower;
-  hop_floor = hop-floor board proof best;
-  share_floor = share-floor board proof best;
-  written = changes.files ∙ ap (option_map (with_two_files solution (solution_text routing) cert (cert_text proof))) told;
-  reads_back = text_reads_back board routing baseline.sayable (never_too_long board routing baseline.sayable baseline.few);
-  cert_reads_back =
-      let is = best-proof board proof best in
-      let short = cert_never_too_long board proof baseline.sayable.limits is.within is.for_board is.few in
-      cert_text_reads_back board proof is.within is.for_board short;
-  told = changes.said;
-  settled = settled;
-}
+pub route-written : (before after : Seen) (name solution cert : Name) (rounds : ℕ) (files : Files) → files_of before ≡ Some files → RouteEnds before after name solution cert rounds status.Ok → IsSettled after → IsRouted files name solution cert rounds before after
+route-written before after name solution cert rounds files told (inl ends) settled = absurd ends
+route-written before after name solution cert rounds files told (inr (board, is, inl obstacle)) settled = absurd obstacle
+route-written before after name solution cert rounds files told (inr (board, is, inr (routing, proof, improved, changes))) settled =
+    let may = improved.may_be_written in
+    record {
+      board = board;
+      described = is files told;
+      routing = routing;
+      legal = may.legal;
+      minimal = may.minimal;
+      few = may.few;
+      no_worse = may.no_worse;
+      proof = proof;
+      valid = may.valid;
+      lower = may.lower;
+      hop_floor = may.hop_floor;
+      share_floor = may.share_floor;
+      rounds = improved.rounds;
+      written = changes.files ∙ ap (option_map (with_two_files solution (solution_text routing) cert (cert_text proof))) told;
+      reads_back = text_reads_back board routing may.sayable (never_too_long board routing may.sayable may.few);
+      cert_reads_back =
+          let short = cert_never_too_long board proof may.sayable.limits may.within may.cert_for may.cert_few in
+          cert_text_reads_back board proof may.within may.cert_for short;
+      told = changes.said;
+      settled = settled;
+    }
 
 -- a fault of the outside that is neither of reading nor of writing is want of memory
 pub only-memory : (answer : Status) → IsOutsideFault answer → (answer ≡ status.ReadFault → ⊥) → (answer ≡ status.WriteFault → ⊥) → answer ≡ status.OutOfMemory

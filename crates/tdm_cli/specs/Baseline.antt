@@ -31,6 +31,10 @@ pub record AreUnconnectable (board : Board) (nets : List ℕ) : Type 0 where
   pub exact : (n : ℕ) → Contains nets n ↔ ((n < length board.nets)
       × (IsConnectable board (terminals_of board n) → ⊥))
 
+-- the baseline has no more uses than a solution may have
+abbrev pub IsWithinUseLimit : Board → Type 0
+IsWithinUseLimit board = (trees : List (List ℕ)) → AreBaseTrees board trees → sum_by length trees ≤ most_uses
+
 -- all nets can be joined, but the baseline trees have more wires together than a solution may use
 pub record IsOverUseLimit (board : Board) : Type 0 where
   pub joined : AllConnectable board

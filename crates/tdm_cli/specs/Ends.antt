@@ -17,8 +17,8 @@ use Rattle.tdm_cli.specs.Change.{Changes, Says}
 use Rattle.tdm_cli.specs.Input.{IsAbsent, IsBoardFile, IsRefusedFile}
 use Rattle.tdm_cli.specs.Reports.{usage_report, route_report, read_fault_report, no_input_report, board_refused_report, unconnectable_report, use_limit_report}
 use Rattle.tdm_cli.specs.TwoFiles.{with_two_files}
-use Rattle.tdm_cli.specs.Certified.{IsBestCert}
-use Rattle.tdm_cli.specs.Baseline.{IsBaseline, AreUnconnectable, IsOverUseLimit}
+use Rattle.tdm_cli.specs.Baseline.{AreUnconnectable, IsOverUseLimit}
+use Rattle.tdm_cli.specs.Improved.{IsImproved}
 
 module _ (before after : Seen) where
   -- no file changed, and something may have been said
@@ -76,14 +76,15 @@ module _ (before after : Seen) where
   ObstacleEnds board status.OutOfMemory = OnlySpoke
   ObstacleEnds board _ = ⊥
 
-  -- the nets of this board were routed and the solution and a certificate written, or there was an obstacle
-  abbrev pub NetsEnds : Board → Name → Name → Status → Type 0
-  NetsEnds board solution cert answer = ObstacleEnds board answer
-      ⊎ ((routing : Routing) × (proof : Cert) × IsBaseline board routing × IsBestCert board proof
+  -- the nets of this board were routed by so many rounds and the solution and a certificate written, or there was an
+  -- obstacle
+  abbrev pub NetsEnds : Board → Name → Name → (rounds : ℕ) → Status → Type 0
+  NetsEnds board solution cert rounds answer = ObstacleEnds board answer
+      ⊎ ((routing : Routing) × (proof : Cert) × IsImproved board rounds routing proof
       × DeliveryEnds solution (solution_text routing) cert (cert_text proof)
       (route_report (value_of board routing) (bound_of board proof)) answer)
 
   -- the board was not had, or it was and its nets came to this end
-  abbrev pub RouteEnds : Name → Name → Name → Status → Type 0
-  RouteEnds board solution cert answer = BoardInputEnds board answer
-      ⊎ ((problem : Board) × IsBoardFile before board problem × NetsEnds problem solution cert answer)
+  abbrev pub RouteEnds : Name → Name → Name → (rounds : ℕ) → Status → Type 0
+  RouteEnds board solution cert rounds answer = BoardInputEnds board answer
+      ⊎ ((problem : Board) × IsBoardFile before board problem × NetsEnds problem solution cert rounds answer)

@@ -18,3 +18,8 @@ pub mod EvalEnds
 pub mod CheckEnds
 pub mod EvalPromises
 pub mod CheckPromises
+pub mod Routing
+pub mod Improved
+pub mod Rounds
+pub mod Best
+pub mod Running

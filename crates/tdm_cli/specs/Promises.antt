@@ -1,5 +1,5 @@
 -- What the program promises of a run, in terms of the files when it began.
-use Rattle.std.specs.Prelude.{◌≡◌, ℕ, ◌<◌, ◌≤◌, List, ◌++◌, length, sum_by, Some, None, Ok, Err, option_map}
+use Rattle.std.specs.Prelude.{◌≡◌, ℕ, ◌<◌, ◌≤◌, ◌++◌, length, sum_by, Some, None, Ok, Err, option_map}
 use Rattle.std.specs.FinMap.{get}
 use Rattle.tdm_desk.specs.Files.{Bytes, Name, Files}
 use Rattle.tdm_desk.specs.Seen.{Seen, files_of, said_of}
@@ -23,18 +23,14 @@ use Rattle.tdm_cli.specs.declared.status.Status.{Status}
 use Rattle.tdm_cli.specs.declared.status.Status.TheVariants as status
 use Rattle.tdm_cli.specs.Settled.{IsSettled}
 use Rattle.tdm_cli.specs.TwoFiles.{with_two_files}
-use Rattle.tdm_cli.specs.Certified.{IsBestCert}
-use Rattle.shortest_forest.specs.Baseline.{AreBaseTrees}
-use Rattle.tdm_cli.specs.Baseline.{most_uses, IsBaseline, IsOverUseLimit}
+use Rattle.tdm_cli.specs.Baseline.{most_uses, IsOverUseLimit, IsWithinUseLimit}
+use Rattle.tdm_cli.specs.Routing.{IsBaselineValue}
+use Rattle.tdm_cli.specs.Improved.{MeetsBaselineRounds}
 use Rattle.tdm_cli.specs.Reports.{route_report}
 
 -- the FPGAs of some net are not joined by the wires of the board
 abbrev pub SomeUnconnectable : Board → Type 0
 SomeUnconnectable board = (n : ℕ) × (n < length board.nets) × (IsConnectable board (terminals_of board n) → ⊥)
-
--- the baseline has no more uses than a solution may have
-abbrev pub IsWithinUseLimit : Board → Type 0
-IsWithinUseLimit board = (trees : List (List ℕ)) → AreBaseTrees board trees → sum_by length trees ≤ most_uses
 
 -- the file of this name is there and is the text of this board
 abbrev pub Describes : Files → Name → Board → Type 0
@@ -65,22 +61,24 @@ IsOutsideFault status.WriteFault = Unit {0}
 IsOutsideFault status.OutOfMemory = Unit {0}
 IsOutsideFault _ = ⊥
 
--- a solution of the board in one file is written to another and a certificate to a third, both read back, and their value
--- and bound are said
-pub record IsRouted (files : Files) (name solution cert : Name) (before after : Seen) : Type 0 where
+-- a solution of the board in one file, found by so many rounds, is written to another and a certificate to a third, both
+-- read back, and their value and bound are said
+pub record IsRouted (files : Files) (name solution cert : Name) (count : ℕ) (before after : Seen) : Type 0 where
   pub board : Board
   pub described : Describes files name board
   pub routing : Routing
   pub legal : IsLegal board routing
   pub minimal : (n : ℕ) → n < length board.nets
       → IsMinimalTree board (wires_of (uses_of routing n)) (terminals_of board n)
-  pub baseline : IsBaseline board routing
+  pub few : sum_by length routing ≤ most_uses
+  pub no_worse : (value : ℕ) → IsBaselineValue board value → value_of board routing ≤ value
   pub proof : Cert
-  pub best : IsBestCert board proof
   pub valid : IsValid board proof
   pub lower : IsLowerBound board (bound_of board proof)
   pub hop_floor : (floor : ℕ) → IsHopFloor board floor → floor ≤ bound_of board proof
   pub share_floor : (floor : ℕ) → IsShareFloor board floor → floor ≤ bound_of board proof
+  pub rounds : 0 < value_of board routing
+      → MeetsBaselineRounds board count (value_of board routing) (bound_of board proof)
   pub written : files_of after
       ≡ Some (with_two_files solution (solution_text routing) cert (cert_text proof) files)
   pub reads_back : solution_of board (solution_text routing) ≡ Ok routing

@@ -159,8 +159,13 @@ impl Progress {
     }
 }
 
-/// The baseline tree of each net, or why the nets have no solution that may be written.
-fn baseline_trees(alloc: Global, problem: &Problem, graph: &BoardGraph) -> Result<Trees, Obstacle>
+/// The baseline tree of each net, or why the nets have no solution that may be written: Unconnectable exactly where no
+/// wires join some net, UseLimit where all are joined and the trees have more than [`MAX_USES`] wires together.
+pub fn baseline_trees(
+    alloc: Global,
+    problem: &Problem,
+    graph: &BoardGraph,
+) -> Result<Trees, Obstacle>
     requires { graph.now ≡ graph_of problem.now }
     ensures base { IfOk result (AreBaseTrees problem.now) }
     ensures few { IfOk result (λ trees. sum_by length trees ≤ MAX_USES) }
@@ -187,17 +192,15 @@ fn baseline_trees(alloc: Global, problem: &Problem, graph: &BoardGraph) -> Resul
     Ok(progress.trees)
 }
 
-/// The baseline solution of a problem, whose board's graph this is: the baseline tree of each net, with uniform ratios.
-/// Unconnectable exactly where no wires join some net, UseLimit where all are joined and the trees have more than
-/// [`MAX_USES`] wires together.
-pub fn baseline(alloc: Global, problem: &Problem, graph: &BoardGraph) -> Result<Solution, Obstacle>
-    requires { graph.now ≡ graph_of problem.now }
-    ensures ok { IfOk result (IsBaseline problem.now) }
-    ensures obstacle { IfErr result (ObstacleShows problem.now) }
+/// The baseline solution of a problem, with these baseline trees: all nets on a wire have one ratio. The only error is
+/// want of memory.
+pub fn baseline(alloc: Global, problem: &Problem, trees: &Trees) -> Result<Solution, AllocError>
+    requires board { IsBoard problem.now }
+    requires joined { AllConnectable problem.now }
+    requires base { AreBaseTrees problem.now trees.now }
+    requires few { sum_by length trees.now ≤ MAX_USES }
+    ensures { IfOk result (IsBaseline problem.now) }
 {
-    let trees = baseline_trees(alloc, problem, graph)?;
-    match uniform_solution(alloc, problem, &trees) {
-        Ok(solution) => Ok(solution),
-        Err(AllocError) => Err(Obstacle::NoMemory),
-    }
+    let solution = uniform_solution(alloc, problem, trees)?;
+    Ok(solution)
 }

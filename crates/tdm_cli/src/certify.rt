@@ -22,7 +22,11 @@ pub struct Certified {
 }
 
 /// The bound that a valid certificate is checked to carry.
-fn checked_bound(alloc: Global, problem: &Problem, cert: &Certificate) -> Result<u128, AllocError>
+pub(crate) fn checked_bound(
+    alloc: Global,
+    problem: &Problem,
+    cert: &Certificate,
+) -> Result<u128, AllocError>
     requires for_problem { IsCertFor problem.now cert.now }
     requires valid { IsValid problem.now cert.now }
     ensures bound { IfOk result (λ bound. bound ≡ bound_of problem.now cert.now) }

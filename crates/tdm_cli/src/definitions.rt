@@ -12,7 +12,7 @@ ghost use Rattle.tdm_cli.specs.Words.{IsCommand, IsEval, IsRoute};
 fn verbs_take_names()
     ensures route { IsCommand (codes "route" ∷ codes "b" ∷ codes "s" ∷ codes "c" ∷ []) }
     ensures over_input { IsRoute (codes "route" ∷ codes "b" ∷ codes "b" ∷ codes "c" ∷ [])
-        (codes "b") (codes "b") (codes "c") }
+        (codes "b") (codes "b") (codes "c") 20 }
     ensures eval { IsCommand (codes "eval" ∷ codes "b" ∷ codes "s" ∷ []) }
     ensures check { IsCommand (codes "check" ∷ codes "b" ∷ codes "c" ∷ []) }
     ensures no_words { ¬ IsCommand [] }

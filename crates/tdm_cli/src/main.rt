@@ -4,15 +4,19 @@
 
 mod answer_report;
 mod baseline;
+mod best;
 mod certify;
 mod check;
 mod command;
 #[cfg(test)]
 mod definitions;
 mod eval;
+mod numbers;
+mod prepare;
 mod reading;
 mod refusing;
 mod report;
+mod rounds;
 mod route;
 mod saying;
 mod status;

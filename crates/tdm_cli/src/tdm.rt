@@ -33,11 +33,13 @@ use tdm_desk::Desk;
 fn run_words<D: Desk>(alloc: Global, desk: &mut D, words: &[String]) -> Status
     ensures no_command { ¬ IsCommand (map string_bytes words.now)
         → UsageEnds (D.seen desk.old) (D.seen desk.new) result }
-    ensures route { (board solution cert : Name) → IsRoute (map string_bytes words.now) board solution cert
-        → RouteEnds (D.seen desk.old) (D.seen desk.new) board solution cert result }
+    ensures route { (board solution cert : Name) (rounds : ℕ)
+        → IsRoute (map string_bytes words.now) board solution cert rounds
+        → RouteEnds (D.seen desk.old) (D.seen desk.new) board solution cert rounds result }
     ensures eval { (board solution : Name) → IsEval (map string_bytes words.now) board solution
         → EvalEnds (D.seen desk.old) (D.seen desk.new) board solution result }
-    ensures settled { (board solution cert : Name) → IsRoute (map string_bytes words.now) board solution cert
+    ensures settled { (board solution cert : Name) (rounds : ℕ)
+        → IsRoute (map string_bytes words.now) board solution cert rounds
         → result ≡ Ok → IsSettled (D.seen desk.new) }
     ensures check { (board cert : Name) → IsCheck (map string_bytes words.now) board cert
         → CheckEnds (D.seen desk.old) (D.seen desk.new) board cert result }
@@ -47,13 +49,15 @@ fn run_words<D: Desk>(alloc: Global, desk: &mut D, words: &[String]) -> Status
         → result ≡ Ok → HasReadBoth (D.seen desk.new) }
     ensures usage { result ≡ Usage → ¬ IsCommand (map string_bytes words.now) }
     ensures usage_slots { ¬ IsCommand (map string_bytes words.now) → KeepsSlots (D.seen desk.old) (D.seen desk.new) }
-    ensures route_slots { (board solution cert : Name) → IsRoute (map string_bytes words.now) board solution cert
+    ensures route_slots { (board solution cert : Name) (rounds : ℕ)
+        → IsRoute (map string_bytes words.now) board solution cert rounds
         → TouchesRouteSlots (D.seen desk.old) (D.seen desk.new) }
     ensures eval_slots { (board solution : Name) → IsEval (map string_bytes words.now) board solution
         → TouchesJudgeSlots (D.seen desk.old) (D.seen desk.new) }
     ensures check_slots { (board cert : Name) → IsCheck (map string_bytes words.now) board cert
         → TouchesJudgeSlots (D.seen desk.old) (D.seen desk.new) }
-    ensures route_judged { (board solution cert : Name) → IsRoute (map string_bytes words.now) board solution cert
+    ensures route_judged { (board solution cert : Name) (rounds : ℕ)
+        → IsRoute (map string_bytes words.now) board solution cert rounds
         → JudgesBoard result → WasRead In0 (2 ^ 28) board (D.seen desk.old) (D.seen desk.new) }
     ensures eval_judged { (board solution : Name) → IsEval (map string_bytes words.now) board solution
         → (JudgesBoard result → WasRead In0 (2 ^ 28) board (D.seen desk.old) (D.seen desk.new))
@@ -63,8 +67,8 @@ fn run_words<D: Desk>(alloc: Global, desk: &mut D, words: &[String]) -> Status
         × (JudgesSecond result → WasRead In1 (2 ^ 30) cert (D.seen desk.old) (D.seen desk.new)) }
     ensures read_fault { result ≡ ReadFault →
         ReportsReadFault D.counts D.steady D.seen desk.old desk.new }
-    ensures route_read_fault { (board solution cert : Name)
-        → IsRoute (map string_bytes words.now) board solution cert
+    ensures route_read_fault { (board solution cert : Name) (rounds : ℕ)
+        → IsRoute (map string_bytes words.now) board solution cert rounds
         → result ≡ ReadFault → ReadingFailed D.counts D.steady In0 desk.old desk.new }
     ensures write_fault { result ≡ WriteFault → WritingFailed D.counts D.steady desk.old desk.new }
     ensures counted { CountsFaults D.counts D.steady desk.old desk.new }
@@ -75,8 +79,9 @@ fn run_words<D: Desk>(alloc: Global, desk: &mut D, words: &[String]) -> Status
                 board,
                 solution,
                 cert,
+                rounds,
             },
-        ) => route(alloc, desk, board, solution, cert),
+        ) => route(alloc, desk, board, solution, cert, rounds),
         Some(Command::Eval { board, solution }) => eval(alloc, desk, board, solution),
         Some(Command::Check { board, cert }) => check(alloc, desk, board, cert),
         None => conclude(desk, report::USAGE, Status::Usage),
@@ -89,8 +94,9 @@ pub fn tdm<D: Desk>(alloc: Global, desk: &mut D, words: &[String]) -> Status
     // How each status comes, and what the files and the report are then.
     ensures no_command { ¬ IsCommand (map string_bytes words.now)
         → UsageEnds (D.seen desk.old) (D.seen desk.new) result }
-    ensures route { (board solution cert : Name) → IsRoute (map string_bytes words.now) board solution cert
-        → RouteEnds (D.seen desk.old) (D.seen desk.new) board solution cert result }
+    ensures route { (board solution cert : Name) (rounds : ℕ)
+        → IsRoute (map string_bytes words.now) board solution cert rounds
+        → RouteEnds (D.seen desk.old) (D.seen desk.new) board solution cert rounds result }
     ensures eval { (board solution : Name) → IsEval (map string_bytes words.now) board solution
         → EvalEnds (D.seen desk.old) (D.seen desk.new) board solution result }
     ensures check { (board cert : Name) → IsCheck (map string_bytes words.now) board cert
@@ -99,7 +105,8 @@ pub fn tdm<D: Desk>(alloc: Global, desk: &mut D, words: &[String]) -> Status
 
     // Whatever the status, a command touches none but its own inputs and outputs, and words that are no command touch none.
     ensures usage_slots { ¬ IsCommand (map string_bytes words.now) → KeepsSlots (D.seen desk.old) (D.seen desk.new) }
-    ensures route_slots { (board solution cert : Name) → IsRoute (map string_bytes words.now) board solution cert
+    ensures route_slots { (board solution cert : Name) (rounds : ℕ)
+        → IsRoute (map string_bytes words.now) board solution cert rounds
         → TouchesRouteSlots (D.seen desk.old) (D.seen desk.new) }
     ensures eval_slots { (board solution : Name) → IsEval (map string_bytes words.now) board solution
         → TouchesJudgeSlots (D.seen desk.old) (D.seen desk.new) }
@@ -107,7 +114,8 @@ pub fn tdm<D: Desk>(alloc: Global, desk: &mut D, words: &[String]) -> Status
         → TouchesJudgeSlots (D.seen desk.old) (D.seen desk.new) }
 
     // A status that judges an input comes only once that was read to its end, or to one byte past the limit on its text.
-    ensures route_judged { (board solution cert : Name) → IsRoute (map string_bytes words.now) board solution cert
+    ensures route_judged { (board solution cert : Name) (rounds : ℕ)
+        → IsRoute (map string_bytes words.now) board solution cert rounds
         → JudgesBoard result → WasRead In0 (2 ^ 28) board (D.seen desk.old) (D.seen desk.new) }
     ensures eval_judged { (board solution : Name) → IsEval (map string_bytes words.now) board solution
         → (JudgesBoard result → WasRead In0 (2 ^ 28) board (D.seen desk.old) (D.seen desk.new))
@@ -120,8 +128,8 @@ pub fn tdm<D: Desk>(alloc: Global, desk: &mut D, words: &[String]) -> Status
     // reported of the input whose count rose; `route` has one input alone.
     ensures read_fault { result ≡ ReadFault →
         ReportsReadFault D.counts D.steady D.seen desk.old desk.new }
-    ensures route_read_fault { (board solution cert : Name)
-        → IsRoute (map string_bytes words.now) board solution cert
+    ensures route_read_fault { (board solution cert : Name) (rounds : ℕ)
+        → IsRoute (map string_bytes words.now) board solution cert rounds
         → result ≡ ReadFault → ReadingFailed D.counts D.steady In0 desk.old desk.new }
     ensures write_fault { result ≡ WriteFault → WritingFailed D.counts D.steady desk.old desk.new }
     ensures counted { CountsFaults D.counts D.steady desk.old desk.new }
@@ -129,25 +137,26 @@ pub fn tdm<D: Desk>(alloc: Global, desk: &mut D, words: &[String]) -> Status
 
     // Where the desk tells its files, they call for one status, which is the answer, unless a fault of the outside or
     // want of memory comes in.
-    ensures exact { (board solution cert : Name) (files : Files)
-        → IsRoute (map string_bytes words.now) board solution cert
+    ensures exact { (board solution cert : Name) (rounds : ℕ) (files : Files)
+        → IsRoute (map string_bytes words.now) board solution cert rounds
         → files_of (D.seen desk.old) ≡ Some files → (called : Status) → CallsFor files board called
         → (result ≡ called) ⊎ IsOutsideFault result }
-    ensures cause { (board solution cert : Name) (files : Files)
-        → IsRoute (map string_bytes words.now) board solution cert
+    ensures cause { (board solution cert : Name) (rounds : ℕ) (files : Files)
+        → IsRoute (map string_bytes words.now) board solution cert rounds
         → files_of (D.seen desk.old) ≡ Some files → IsOutsideFault result ⊎ CallsFor files board result }
 
     // An accepted board with connectable nets and a baseline within the limit is routed, unless memory is wanting.
-    ensures complete { (board solution cert : Name) (files : Files)
-        → IsRoute (map string_bytes words.now) board solution cert
+    ensures complete { (board solution cert : Name) (rounds : ℕ) (files : Files)
+        → IsRoute (map string_bytes words.now) board solution cert rounds
         → files_of (D.seen desk.old) ≡ Some files → CallsFor files board Ok
         → (ReadingFailed D.counts D.steady In0 desk.old desk.new → ⊥)
         → (WritingFailed D.counts D.steady desk.old desk.new → ⊥) → (result ≡ Ok) ⊎ (result ≡ OutOfMemory) }
-    ensures written { (board solution cert : Name) (files : Files)
-        → IsRoute (map string_bytes words.now) board solution cert
+    ensures written { (board solution cert : Name) (rounds : ℕ) (files : Files)
+        → IsRoute (map string_bytes words.now) board solution cert rounds
         → files_of (D.seen desk.old) ≡ Some files → result ≡ Ok
-        → IsRouted files board solution cert (D.seen desk.old) (D.seen desk.new) }
-    ensures settled { (board solution cert : Name) → IsRoute (map string_bytes words.now) board solution cert
+        → IsRouted files board solution cert rounds (D.seen desk.old) (D.seen desk.new) }
+    ensures settled { (board solution cert : Name) (rounds : ℕ)
+        → IsRoute (map string_bytes words.now) board solution cert rounds
         → result ≡ Ok → IsSettled (D.seen desk.new) }
 
     // The same of `eval`, which changes no file: Ok just where the solution is legal, and then its value is said, and

@@ -12,6 +12,9 @@ const THREE: &str = "2 1 3 1\n0 1\n0 1\n0 1\n0 1\n0 1 2\n";
 /// One net between three ends of a star.
 const STAR: &str = "4 3 1 1\n0 1\n0 2\n0 3\n1 2 3\n0\n";
 
+/// Two wires between two FPGAs, and four nets, each a group of its own.
+const TWO_WIRES: &str = "2 2 4 4\n0 1\n0 1\n0 1\n0 1\n0 1\n0 1\n0\n1\n2\n3\n";
+
 /// Three nets, of which the first and the last have FPGAs that no wires join, and no group.
 const SPLIT: &str = "4 2 3 0\n0 1\n2 3\n0 2\n0 1\n3 1\n";
 
@@ -101,10 +104,19 @@ fn routes_the_worked_boards(rt: HostRuntime) -> Result<(), Fail> {
     assert!(rt;
         ends(
             alloc,
-            "2 2 4 4\n0 1\n0 1\n0 1\n0 1\n0 1\n0 1\n0\n1\n2\n3\n",
+            TWO_WIRES,
             Status::Ok,
-            "value 4\nbound 2\n",
-            "1\n0 4\n1\n0 4\n1\n0 4\n1\n0 4\n"
+            "value 2\nbound 2\n",
+            "1\n1 2\n1\n1 2\n1\n0 2\n1\n0 2\n"
+        )?
+    );
+    assert!(rt;
+        ends(
+            alloc,
+            "2 1 5 2\n0 1\n0 1\n0 1\n0 1\n0 1\n0 1\n0 1 2 3\n4\n",
+            Status::Ok,
+            "value 24\nbound 18\n",
+            "1\n0 6\n1\n0 6\n1\n0 6\n1\n0 6\n1\n0 6\n"
         )?
     );
     assert!(rt;
@@ -116,6 +128,23 @@ fn routes_the_worked_boards(rt: HostRuntime) -> Result<(), Fail> {
             "3\n0 2\n1 2\n2 2\n"
         )?
     );
+    Ok(())
+}
+
+/// Whether routing the two-wire board with these words behind the names says this.
+fn says_by_rounds(alloc: Global, rounds: &str, said: &str) -> Result<bool, AllocError> {
+    let mut desk = MemoryDesk::new(alloc);
+    desk.put_file("b", TWO_WIRES.as_bytes())?;
+    let answer = run(alloc, &mut desk, &["route", "b", "s", "c", rounds])?;
+    Ok(answer == Status::Ok && desk.report() == said.as_bytes())
+}
+
+#[test]
+fn rounds_move_nets_off_a_crowded_wire(rt: HostRuntime) -> Result<(), Fail> {
+    let alloc = rt.alloc();
+    assert!(rt; says_by_rounds(alloc, "0", "value 4\nbound 2\n")?);
+    assert!(rt; says_by_rounds(alloc, "1", "value 2\nbound 2\n")?);
+    assert!(rt; says_by_rounds(alloc, "1000", "value 2\nbound 2\n")?);
     Ok(())
 }
 
@@ -139,15 +168,6 @@ fn empty_boards_repeats_and_odd_layouts_are_routed(rt: HostRuntime) -> Result<()
             Status::Ok,
             "value 2\nbound 2\n",
             "1\n0 2\n"
-        )?
-    );
-    assert!(rt;
-        ends(
-            alloc,
-            "2 1 5 2\n0 1\n0 1\n0 1\n0 1\n0 1\n0 1\n0 1 2 3\n4\n",
-            Status::Ok,
-            "value 24\nbound 14\n",
-            "1\n0 6\n1\n0 6\n1\n0 6\n1\n0 6\n1\n0 6\n"
         )?
     );
     assert!(rt;
@@ -470,7 +490,10 @@ fn other_words_are_refused(rt: HostRuntime) -> Result<(), Fail> {
     let alloc = rt.alloc();
     assert!(rt; refuses_words(alloc, &["route", "b"])?);
     assert!(rt; refuses_words(alloc, &["route", "b", "s"])?);
-    assert!(rt; refuses_words(alloc, &["route", "b", "s", "c", "20"])?);
+    assert!(rt; refuses_words(alloc, &["route", "b", "s", "c", "1001"])?);
+    assert!(rt; refuses_words(alloc, &["route", "b", "s", "c", "01"])?);
+    assert!(rt; refuses_words(alloc, &["route", "b", "s", "c", "+1"])?);
+    assert!(rt; refuses_words(alloc, &["route", "b", "s", "c", ""])?);
     assert!(rt; refuses_words(alloc, &["route", "b", "s", "s"])?);
     assert!(rt; refuses_words(alloc, &["route", "", "s", "c"])?);
     assert!(rt; refuses_words(alloc, &["Route", "b", "s", "c"])?);

@@ -11,8 +11,7 @@ pub returns-in-Ok-clause-ends : goal.returns-in-Ok-clause-ends
 returns-in-Ok-clause-ends g c = λ before silent. inr (
   c.in-Ok.plan.solution,
   c.in-Ok.plan.cert,
-  c.in-Ok.ensures.solution,
-  c.in-Ok.ensures.cert,
+  c.in-Ok.ensures.improved,
   subst (λ report. DeliveryEnds before (g.D.Desk.seen c.deliver.new.desk) c.args.solution.now (solution_text c.in-Ok.plan.solution) c.args.cert.now (cert_text c.in-Ok.plan.cert) report c.deliver.result)
       (c.as_slice.ensures.value ∙ c.in-Ok.ensures.report)
       (silence_then_delivery before (g.D.Desk.seen c.args.desk.now) (g.D.Desk.seen c.deliver.new.desk) c.args.solution.now (solution_text c.in-Ok.plan.solution) c.args.cert.now (cert_text c.in-Ok.plan.cert) c.as_slice.result.now c.deliver.result silent c.deliver.ensures.ends),

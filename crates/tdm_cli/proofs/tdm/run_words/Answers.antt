@@ -1,9 +1,9 @@
 use Rattle.std.proofs.Common.{refl, subst, codes}
 use Rattle.tdm_cli.specs.Words.{is_route, is_eval, is_check}
-use Rattle.tdm_cli.specs.Ends.{UsageEnds}
+use Rattle.tdm_cli.specs.Ends.{UsageEnds, RouteEnds}
 use Rattle.tdm_cli.specs.EvalEnds.{EvalEnds}
 use Rattle.tdm_cli.specs.CheckEnds.{CheckEnds}
-use Rattle.tdm_cli.proofs.WordLaws.{names-are}
+use Rattle.tdm_cli.proofs.WordLaws.{names-are, route-is}
 use Rattle.tdm_cli.proofs.ChangeLaws.{says_nothing}
 use Rattle.tdm_cli.proofs.EndsLaws.{reported}
 use Rattle.tdm_cli.proofs.tdm.run_words.Goals as goal
@@ -13,13 +13,23 @@ returns-in-None-clause-no_command g c = λ not_command.
     reported g.D.Desk.counts g.D.Desk.steady g.D.Desk.seen (UsageEnds (g.D.Desk.seen c.args.desk.now) (g.D.Desk.seen c.conclude.new.desk)) (g.D.Desk.seen c.args.desk.now) c.args.desk.now c.conclude.new.desk _ _ _ (says_nothing _ _ refl refl) (λ says. says) (λ spoke. spoke) (λ spoke. spoke) c.conclude.ensures.ends
 
 pub returns-in-None-clause-route : goal.returns-in-None-clause-route
-returns-in-None-clause-route g c = λ board solution cert is. absurd (c.in-None.ensures.none (is_route board solution cert is))
+returns-in-None-clause-route g c = λ board solution cert rounds is. absurd (c.in-None.ensures.none (is_route board solution cert rounds is))
+
+pub returns-in-Some-Route-clause-route : goal.returns-in-Some-Route-clause-route
+returns-in-Some-Route-clause-route g c = λ board solution cert rounds is.
+    let old = g.D.Desk.seen c.args.desk.now in
+    let new = g.D.Desk.seen c.route.new.desk in
+    let same = route-is _ _ _ _ _ board solution cert rounds (rw c.in-Some-Route.field-0-is at c.in-Some-Route.ensures.found) is in
+    subst (λ b. RouteEnds old new b solution cert rounds c.route.result) same.0
+    (subst (λ s. RouteEnds old new c.in-Some-Route.board.now s cert rounds c.route.result) same.1
+    (subst (λ n. RouteEnds old new c.in-Some-Route.board.now c.in-Some-Route.solution.now n rounds c.route.result) same.2
+    (subst (λ count. RouteEnds old new c.in-Some-Route.board.now c.in-Some-Route.solution.now c.in-Some-Route.cert.now count c.route.result) same.3 c.route.ensures.ends)))
 
 pub returns-in-None-clause-eval : goal.returns-in-None-clause-eval
 returns-in-None-clause-eval g c = λ board solution is. absurd (c.in-None.ensures.none (is_eval board solution is))
 
 pub returns-in-Some-Route-clause-no_command : goal.returns-in-Some-Route-clause-no_command
-returns-in-Some-Route-clause-no_command g c = λ not_command. absurd (not_command (is_route _ _ _ (rw c.in-Some-Route.field-0-is at c.in-Some-Route.ensures.found)))
+returns-in-Some-Route-clause-no_command g c = λ not_command. absurd (not_command (is_route _ _ _ _ (rw c.in-Some-Route.field-0-is at c.in-Some-Route.ensures.found)))
 
 pub returns-in-Some-Eval-clause-no_command : goal.returns-in-Some-Eval-clause-no_command
 returns-in-Some-Eval-clause-no_command g c = λ not_command. absurd (not_command (is_eval _ _ (rw c.in-Some-Eval.field-0-is at c.in-Some-Eval.ensures.found)))
@@ -45,7 +55,7 @@ returns-in-Some-Eval-clause-eval g c = λ board solution is.
     subst (λ b. EvalEnds old new b solution c.eval.result) names.0 (subst (λ n. EvalEnds old new c.in-Some-Eval.board.now n c.eval.result) names.1 c.eval.ensures.ends)
 
 pub returns-in-Some-Route-clause-usage_slots : goal.returns-in-Some-Route-clause-usage_slots
-returns-in-Some-Route-clause-usage_slots g c = λ not_command. absurd (not_command (is_route _ _ _ (rw c.in-Some-Route.field-0-is at c.in-Some-Route.ensures.found)))
+returns-in-Some-Route-clause-usage_slots g c = λ not_command. absurd (not_command (is_route _ _ _ _ (rw c.in-Some-Route.field-0-is at c.in-Some-Route.ensures.found)))
 
 pub returns-in-Some-Eval-clause-usage_slots : goal.returns-in-Some-Eval-clause-usage_slots
 returns-in-Some-Eval-clause-usage_slots g c = λ not_command. absurd (not_command (is_eval _ _ (rw c.in-Some-Eval.field-0-is at c.in-Some-Eval.ensures.found)))

@@ -11,21 +11,21 @@ use Rattle.tdm_cli.proofs.CheckPromiseLaws.{check-exact, check-cause, check-boun
 use Rattle.tdm_cli.proofs.tdm.tdm.Goals as goal
 
 pub returns-clause-exact : goal.returns-clause-exact
-returns-clause-exact g c = λ board solution cert files is told called calls.
-    route-exact _ _ board solution cert files told _ (c.run_words.ensures.route board solution cert is) called calls
+returns-clause-exact g c = λ board solution cert rounds files is told called calls.
+    route-exact _ _ board solution cert rounds files told _ (c.run_words.ensures.route board solution cert rounds is) called calls
 
 pub returns-clause-cause : goal.returns-clause-cause
-returns-clause-cause g c = λ board solution cert files is told.
-    route-cause _ _ board solution cert files told _ (c.run_words.ensures.route board solution cert is)
+returns-clause-cause g c = λ board solution cert rounds files is told.
+    route-cause _ _ board solution cert rounds files told _ (c.run_words.ensures.route board solution cert rounds is)
 
 pub returns-clause-complete : goal.returns-clause-complete
-returns-clause-complete g c = λ board solution cert files is told calls no_read no_write.
-    ok-or-memory _ (route-exact _ _ board solution cert files told _ (c.run_words.ensures.route board solution cert is) _ calls)
-    (λ fault. no_read (c.run_words.ensures.route_read_fault board solution cert is fault)) (λ fault. no_write (c.run_words.ensures.write_fault fault))
+returns-clause-complete g c = λ board solution cert rounds files is told calls no_read no_write.
+    ok-or-memory _ (route-exact _ _ board solution cert rounds files told _ (c.run_words.ensures.route board solution cert rounds is) _ calls)
+    (λ fault. no_read (c.run_words.ensures.route_read_fault board solution cert rounds is fault)) (λ fault. no_write (c.run_words.ensures.write_fault fault))
 
 pub returns-clause-written : goal.returns-clause-written
-returns-clause-written g c = λ board solution cert files is told ok.
-    route-written _ _ board solution cert files told (subst (RouteEnds (g.D.Desk.seen c.args.desk.now) (g.D.Desk.seen c.run_words.new.desk) board solution cert) ok (c.run_words.ensures.route board solution cert is)) (c.run_words.ensures.settled board solution cert is ok)
+returns-clause-written g c = λ board solution cert rounds files is told ok.
+    route-written _ _ board solution cert rounds files told (subst (RouteEnds (g.D.Desk.seen c.args.desk.now) (g.D.Desk.seen c.run_words.new.desk) board solution cert rounds) ok (c.run_words.ensures.route board solution cert rounds is)) (c.run_words.ensures.settled board solution cert rounds is ok)
 
 pub returns-clause-eval_exact : goal.returns-clause-eval_exact
 returns-clause-eval_exact g c = λ board solution files is told called calls.

@@ -1,0 +1,71 @@
+use Rattle.std.proofs.Common.{◌≡◌, ℕ, ◌^◌, ◌<◌, ◌≤◌, List, length, map, refl, sym, ap, ◌∙◌, subst, arith}
+use Rattle.std.specs.Prelude.{All}
+use Rattle.std.proofs.lemmas.List.{length-map}
+use Rattle.tdm_problem.specs.Value.{group_sum, value_of}
+use Rattle.group_multipliers.specs.Renewal.{renewed}
+use Rattle.even_legalise.specs.Shared.{shared_routing}
+use Rattle.tdm_cli.specs.Rounds.{IsRoundBound}
+use Rattle.tdm_cli.proofs.NumberLaws.{range-below}
+use Rattle.tdm_cli.proofs.RunningLaws.{Reroutes-made, renewed-count}
+use Rattle.tdm_cli.proofs.SharedValues.{shared-sums_small}
+use Rattle.tdm_cli.proofs.rounds.round.Goals as goal
+
+pub reroute-requires-clause-there : goal.reroute-requires-clause-there
+reroute-requires-clause-there c =
+    subst (λ (ns : List ℕ). All (λ n. n < length c.args.problem.now.nets) ns) (sym c.requires.nets) (range-below (length c.args.problem.now.nets))
+
+pub returns-then-not-are_few-clause-ended : goal.returns-then-not-are_few-clause-ended
+returns-then-not-are_few-clause-ended c _ _ = record {
+  round = record { weights = c.args.running.now.weights.items; numbers = c.in_ok-numbers.numbers.items; trees = c.reroute.new.trees };
+  weights_are = refl;
+  reroutes = Reroutes-made c.args.problem.now c.args.running.now.weights.items c.deref.result.now c.in_ok-numbers.numbers.items c.deref-2.result.now c.args.nets.now c.args.running.now.trees c.reroute.new.trees
+      c.deref.ensures.value c.deref-2.ensures.value c.requires.nets (c.in_ok-numbers.ensures.roots c.args.problem.now c.requires.incidence) c.in_ok-_rerouted.ensures.passes;
+  over = c.are_few.ensures.no c.if-not-are_few.true;
+}
+
+pub next_weights-requires-clause-small : goal.next_weights-requires-clause-small
+next_weights-requires-clause-small c =
+    let roots = c.in_ok-numbers.ensures.roots c.args.problem.now c.requires.incidence in
+    let paired : length c.deref-3.result.now ≡ length c.reroute.new.trees =
+    ap length c.deref-3.ensures.value ∙ roots.count ∙ sym c.in_ok-_rerouted.ensures.rerouted.minimal.for_board.nets in
+    subst (λ (xs : List ℕ). All (λ total. total ≤ 2 ^ 87) xs) (sym (c.deref-9.ensures.value ∙ c.in_ok-sums.ensures))
+    (shared-sums_small c.args.problem.now c.reroute.new.trees c.deref-3.result.now c.requires.best.may_be_written.sayable.limits c.are_few.ensures.rising paired
+    (c.are_few.ensures.yes c.if-not-are_few.false))
+
+pub returns-clause-weights : goal.returns-clause-weights
+returns-clause-weights c =
+    let sums : length c.deref-9.result.now ≡ length c.deref-8.result.now =
+    ap length (c.deref-9.ensures.value ∙ c.in_ok-sums.ensures)
+    ∙ length-map c.args.problem.now.groups (group_sum (shared_routing c.args.problem.now c.reroute.new.trees c.deref-3.result.now))
+    ∙ sym (ap length c.deref-8.ensures.value ∙ c.requires.weights.count) in
+    record {
+      count = ap length c.in_ok-running.ensures.value ∙ renewed-count c.deref-8.result.now c.deref-9.result.now sums ∙ ap length c.deref-8.ensures.value ∙ c.requires.weights.count;
+      positive = c.in_ok-running.ensures.positive;
+      limited = c.in_ok-running.ensures.limited;
+    }
+
+pub returns-clause-went : goal.returns-clause-went
+returns-clause-went c _ =
+    let board = c.args.problem.now in
+    let weights : List ℕ = c.args.running.now.weights.items in
+    let numbers : List ℕ = c.in_ok-numbers.numbers.items in
+    let trees : List (List ℕ) = c.reroute.new.trees in
+    let sums_of : List ℕ → List ℕ = λ ns. map (group_sum (shared_routing board trees ns)) board.groups in
+    record {
+      numbers = numbers;
+      reroutes = Reroutes-made board weights c.deref.result.now numbers c.deref-2.result.now c.args.nets.now c.args.running.now.trees trees
+          c.deref.ensures.value c.deref-2.ensures.value c.requires.nets (c.in_ok-numbers.ensures.roots board c.requires.incidence) c.in_ok-_rerouted.ensures.passes;
+      fits = c.are_few.ensures.yes c.if-not-are_few.false;
+      next_is = c.in_ok-running.ensures.value
+          ∙ ap (λ (ws : List ℕ). renewed ws c.deref-9.result.now) c.deref-8.ensures.value
+          ∙ ap (renewed weights) (c.deref-9.ensures.value ∙ c.in_ok-sums.ensures ∙ ap sums_of c.deref-3.ensures.value);
+      met = record {
+        no_worse = λ fits.
+            subst (λ (ns : List ℕ). c.keep_certificate.new.best.value ≤ value_of board (shared_routing board trees ns)) c.deref-4.ensures.value
+            (omega (arith, c.keep_certificate.ensures.value, c.in_ok-keep_solution.ensures.value));
+        no_weaker = λ fits other is.
+            c.in_ok-keep_certificate.ensures.bound other
+            (subst (λ (ws : List ℕ). IsRoundBound board (record { weights = ws; numbers = c.deref-7.result.now; trees = trees }) other) (sym c.deref-6.ensures.value)
+            (subst (λ (ns : List ℕ). IsRoundBound board (record { weights = weights; numbers = ns; trees = trees }) other) (sym c.deref-7.ensures.value) is));
+      };
+    }
