@@ -95,7 +95,7 @@ module _ (board : Board) (trees : List (List ℕ)) (numbers : List ℕ) (n : ℕ
           (subst (λ (f : ℕ → ℕ). IsWithinWalks board f (source_of board n) (terminals_of board n) (length_of (marginal_length trees numbers n) wires)) (sym lengths-stay) better.within) in
           record {
             others = ap (slice_set trees n) (sym tree-is);
-            own = inr (subst (λ (w : List ℕ). IsMinimalTree board w (terminals_of board n)) (sym tree-is) better.minimal, cost-falls positive);
+            own = inr (subst (λ (w : List ℕ). IsMinimalTree board w (terminals_of board n)) (sym tree-is) better.minimal, subst (λ (w : List ℕ). IsStrictlyIncreasing w) (sym tree-is) better.rising, cost-falls positive);
             short = λ distance are. mul-le-mul_left (slice_index numbers n)
                 (IsWithinDistances-from_walks board (marginal_length new numbers n) (source_of board n) (terminals_of board n) (old_length new numbers n) within distance are);
           }

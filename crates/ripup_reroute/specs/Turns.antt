@@ -1,5 +1,6 @@
 -- Rip-up and reroute: turns of nets, and passes of turns.
 use Rattle.std.specs.Prelude.{◌≡◌, ℕ, zero, suc, ◌*◌, ◌<◌, ◌≤◌, ◌⊎◌, List, [], ◌∷◌, slice_index, slice_set, sum_by, Contains}
+use Rattle.std.specs.List.Sorted.{IsStrictlyIncreasing}
 use Rattle.tdm_problem.specs.Board.{Board}
 use Rattle.tdm_problem.specs.Distance.{IsDistance, length_of}
 use Rattle.tdm_problem.specs.Legal.{source_of, terminals_of}
@@ -16,11 +17,12 @@ IsShortFor board numbers n trees = (distance : ℕ → ℕ)
     → slice_index numbers n * length_of (marginal_length trees numbers n) (tree_of trees n)
     ≤ slice_index numbers n * sum_by distance (terminals_of board n)
 
--- a turn of net n: all other trees stay, and its own stays or becomes another minimal tree of smaller cost; then it is short
+-- a turn of net n: all other trees stay, and its own stays or becomes another minimal tree, wires rising, of smaller
+-- cost; then it is short
 pub record IsTurn (board : Board) (numbers : List ℕ) (n : ℕ) (trees new : List (List ℕ)) : Type 0 where
   pub others : new ≡ slice_set trees n (tree_of new n)
   pub own : (tree_of new n ≡ tree_of trees n)
-      ⊎ (IsMinimalTree board (tree_of new n) (terminals_of board n)
+      ⊎ (IsMinimalTree board (tree_of new n) (terminals_of board n) × IsStrictlyIncreasing (tree_of new n)
       × (load_cost board new numbers < load_cost board trees numbers))
   pub short : IsShortFor board numbers n new
 
