@@ -1,5 +1,5 @@
 #!/usr/bin/env python3
-"""Times the built program on boards of growing size, and prints one table: `route` on each board, `eval` on the solution
+"""Times the built program on boards of growing size, and prints one table: `route` by no round on each board, `eval` on the solution
 and `check` on the certificate that it wrote, and `eval` on wires that are filled exactly by many different ratios.
 
 usage: run.py PROGRAM [FOLDER]
@@ -100,7 +100,7 @@ def main() -> int:
     boards += [((RING_FPGAS,) * 4, ring(folder, RING_FPGAS))]
     for size, text in boards:
         solution, cert = folder / "solution.txt", folder / "cert.txt"
-        if run("route", size, [text], [text, solution, cert]) == 0:
+        if run("route", size, [text], [text, solution, cert, 0]) == 0:
             run("eval", size, [text, solution], [text, solution])
             run("check", size, [text, cert], [text, cert])
     for count in EXACT_RATIOS:
