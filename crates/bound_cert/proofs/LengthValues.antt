@@ -11,7 +11,7 @@ use Rattle.tdm_problem.proofs.Walks.{AnyWire-from_links, IsWalk-reverse}
 use Rattle.board_graph.specs.Graph.{Graph, IsGraph, graph_of, board_of}
 use Rattle.shortest_forest.specs.Reach.{Reach, HasNoWalk, distance_of}
 use Rattle.shortest_forest.specs.LeastForest.{IsWayUp, IsLeastForest}
-use Rattle.shortest_forest.proofs.SearchLaws.{at_below}
+use Rattle.shortest_forest.proofs.BreadthFirstLaws.{at_below}
 use Rattle.bound_cert.specs.Makers.{IsRootPotential}
 use Rattle.bound_cert.proofs.HopValues.{or_zero, IsRootPotential-from_distances, all_bounded}
 

@@ -6,7 +6,7 @@ use Rattle.tdm_problem.specs.Board.{Board}
 use Rattle.tdm_problem.specs.Walk.{Links}
 use Rattle.tdm_problem.proofs.Walks.{Links-sym}
 use Rattle.shortest_forest.specs.Arcs.{Arcs, IsArcWalk, IsLowerBound}
-use Rattle.shortest_forest.specs.Labels.{Labels, IsAtLabel, IsSource, IsWayBack, IsLabelled, IsNearest}
+use Rattle.shortest_forest.specs.Labels.{Labels, IsAtLabel, IsWayBack, IsLabelled, IsNearest}
 use Rattle.shortest_forest.proofs.UnderWay.{distance_unique}
 use Rattle.shortest_forest.proofs.WayLaws.{way_back-source}
 

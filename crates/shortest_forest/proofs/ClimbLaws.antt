@@ -15,9 +15,9 @@ use Rattle.tdm_problem.specs.Walk.{Links}
 use Rattle.tdm_problem.specs.Distance.{IsHopCount}
 use Rattle.shortest_forest.specs.Baseline.{IsParent, IsParentChain, IsOnChain, IsBaseTree}
 use Rattle.shortest_forest.specs.Reach.{Reach, HasHops, distance_of, parent_of}
-use Rattle.shortest_forest.specs.Search.{IsAt}
+use Rattle.shortest_forest.specs.BreadthFirst.{IsAt}
 use Rattle.shortest_forest.specs.Climb.{IsMarked, IsCollected}
-use Rattle.shortest_forest.proofs.SearchLaws.{some_same, not_none}
+use Rattle.shortest_forest.proofs.BreadthFirstLaws.{some_same, not_none}
 use Rattle.shortest_forest.proofs.HopLaws.{Links-below, at_hops, hops_unique}
 use Rattle.shortest_forest.proofs.BaselineLaws.{contains-head, contains-cons, ends-same, other-end, parent-wire-unique, source-has-no-parent}
 

@@ -4,7 +4,6 @@ use Rattle.std.specs.Prelude.{IfSome, IfNone, MatchOption, ◌↔◌, replicate,
 use Rattle.std.proofs.lemmas.Bool.{cases_eq, cases_lt}
 use Rattle.std.proofs.lemmas.List.{get_or_past, length-replicate, get_or-replicate}
 use Rattle.std.proofs.lemmas.List.Sums.{sum_by-cons}
-use Rattle.std.proofs.lemmas.List.Sorted.{sum_by-IsPermutation, IsPermutation-reverse}
 use Rattle.tdm_problem.specs.Board.{Board}
 use Rattle.tdm_problem.specs.Walk.{Links, IsWalk, AnyWire}
 use Rattle.tdm_problem.specs.Distance.{length_of, IsDistance}
@@ -17,9 +16,9 @@ use Rattle.shortest_forest.specs.Settled.{IsAllSettled}
 use Rattle.shortest_forest.specs.Reach.{Reach, distance_of, parent_of, HasNoWalk}
 use Rattle.shortest_forest.specs.LeastForest.{LeadsNearerBy, IsWayUp, HasLeast, IsLeastForest}
 use Rattle.shortest_forest.proofs.SameBoard.{Links-same, IsWalk-same}
-use Rattle.shortest_forest.proofs.SearchLaws.{some_same}
+use Rattle.shortest_forest.proofs.BreadthFirstLaws.{some_same}
 use Rattle.shortest_forest.proofs.UnderWay.{distance_unique, wire_unique, not_source, unlabelled, begun_unlabelled}
-use Rattle.shortest_forest.proofs.WayLaws.{way_back-source, way_back-short, way_back-walk}
+use Rattle.shortest_forest.proofs.WayLaws.{length-reversed, way_back-source, way_back-short, way_back-walk}
 
 -- ---- without goals
 
@@ -113,9 +112,6 @@ module _ (board : Board) (l : ℕ → ℕ) (root : ℕ) (s : Labels) (all : IsAl
   root_label : IsAtLabel s root 0
   root_label = (None, all.root_source)
 
-  length-reverse' : (es : List ℕ) → length_of l (reverse es) ≡ length_of l es
-  length-reverse' es = sum_by-IsPermutation l es (reverse es) (IsPermutation-reverse es)
-
   label_is_distance : (f d : ℕ) → IsAtLabel s f d → IsDistance board l root f d
   label_is_distance f d at =
       let back = all.labelled.back f d at in
@@ -124,7 +120,7 @@ module _ (board : Board) (l : ℕ → ℕ) (root : ℕ) (s : Labels) (all : IsAl
       let forth : IsWalk board (AnyWire board) root (reverse back.0) f = IsWalk-reverse board (AnyWire board) f back.0 root (subst (λ (n : ℕ). IsWalk board (AnyWire board) f back.0 n) source walk.0) in
       let no_longer = at_least f d at (reverse back.0) forth in
       record {
-        walk = (reverse back.0, forth, omega (arith, length-reverse' back.0, walk.1, no_longer));
+        walk = (reverse back.0, forth, omega (arith, length-reversed l back.0, walk.1, no_longer));
         least = λ es forth'. at_least f d at es forth';
       }
     where

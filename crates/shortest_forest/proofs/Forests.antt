@@ -2,7 +2,7 @@
 use Rattle.std.proofs.Common.{ℕ, ◌<◌, ap}
 use Rattle.board_graph.specs.Graph.{Graph, IsGraph, board_of}
 use Rattle.shortest_forest.specs.Reach.{Reach, AreHops, IsHopForest}
-use Rattle.shortest_forest.specs.Search.{IsAt}
+use Rattle.shortest_forest.specs.BreadthFirst.{IsAt}
 use Rattle.shortest_forest.proofs.SameBoard.{HasHops-same}
 use Rattle.shortest_forest.proofs.HopLaws.{AreNearest, HasHops-made}
 

@@ -12,8 +12,8 @@ use Rattle.tdm_problem.specs.Distance.{length_of, IsHopCount}
 use Rattle.tdm_problem.proofs.Walks.{AnyWire-from_links, IsWalk-append, IsWalk-one, IsWalk-reverse, Links-sym}
 use Rattle.shortest_forest.specs.Baseline.{IsParent, IsParentChain}
 use Rattle.shortest_forest.specs.Reach.{Reach, HasNoWalk, AreHops, HasHops, distance_of, parent_of}
-use Rattle.shortest_forest.specs.Search.{IsAt, LeadsNearer, IsFirstNearer}
-use Rattle.shortest_forest.proofs.SearchLaws.{not_none, at_unique, at_below}
+use Rattle.shortest_forest.specs.BreadthFirst.{IsAt, LeadsNearer, IsFirstNearer}
+use Rattle.shortest_forest.proofs.BreadthFirstLaws.{not_none, at_unique, at_below}
 
 -- the number of hops is one number
 pub hops_unique : (board : Board) (a b d far : ℕ) → IsHopCount board a b d → IsHopCount board a b far → d ≡ far

@@ -1,6 +1,6 @@
 pub mod BaselineLaws
 pub mod NeighbourLaws
-pub mod SearchLaws
+pub mod BreadthFirstLaws
 pub mod SameBoard
 pub mod HopLaws
 pub mod PassLaws
@@ -14,4 +14,4 @@ pub mod WayLaws
 pub mod NearestLaws
 pub mod ForestLaws
 mod SampleParents
-mod ArcWays
+pub mod ArcWays

@@ -8,10 +8,10 @@ use Rattle.tdm_problem.specs.Walk.{Links}
 use Rattle.board_graph.specs.declared.neighbour.Neighbour.{Neighbour}
 use Rattle.board_graph.specs.Graph.{Graph, IsGraph, board_of}
 use Rattle.board_graph.specs.Neighbours.{neighbours_of}
-use Rattle.shortest_forest.specs.Search.{IsAt, IsPassed, IsSearch, IsReached, LeadsNearer, IsFirstNearer}
+use Rattle.shortest_forest.specs.BreadthFirst.{IsAt, IsPassed, IsSearch, IsReached, LeadsNearer, IsFirstNearer}
 use Rattle.shortest_forest.proofs.NeighbourLaws.{Links-from_neighbour, neighbour-from_links, neighbours-rise}
 use Rattle.shortest_forest.proofs.HopLaws.{Links-below}
-use Rattle.shortest_forest.proofs.SearchLaws.{some_same, at_unique, at_below, IsStepDone, step_done, IsSearch-next}
+use Rattle.shortest_forest.proofs.BreadthFirstLaws.{some_same, at_unique, at_below, IsStepDone, step_done, IsSearch-next}
 
 -- a neighbour is an FPGA of the graph
 pub neighbour-below : (graph : Graph) → IsGraph graph → (f k : ℕ) (z : Neighbour) → k < length (neighbours_of graph f) → (get_or (neighbours_of graph f) k z).fpga < graph.fpgas

@@ -11,7 +11,7 @@ use Rattle.tdm_problem.specs.Walk.{Links}
 use Rattle.shortest_forest.specs.declared.label.Label.{Label}
 use Rattle.shortest_forest.specs.Arcs.{Arcs, IsArcWalk, IsGoal, IsLowerBound}
 use Rattle.shortest_forest.specs.Labels.{Labels, label_at, distance_in, wire_in, HasLabel, IsAtLabel, IsWaiting, IsNoShorter, IsWayBack, IsLabelled, IsWaitingOrSettled, IsUnderWay, IsLowered}
-use Rattle.shortest_forest.proofs.SearchLaws.{some_same}
+use Rattle.shortest_forest.proofs.BreadthFirstLaws.{some_same}
 
 -- ---- one label
 

@@ -1,10 +1,11 @@
 -- Ways back to a source: there is one from each FPGA, it is short, and it is as long as labels say, at most.
 use Rattle.std.proofs.Common.{◌≡◌, ◌≢◌, ℕ, ◌+◌, ◌<◌, ◌≤◌, ◌⊎◌, Bool, true, false, List, [], ◌∷◌, ◌++◌, Some, None, length, refl, sym, ap, ◌∙◌, subst, inl, inr, arith, eqb}
 use Rattle.std.specs.List.{list_any, IsDistinct, AllByRecursion}
-use Rattle.std.specs.Prelude.{◌||◌}
+use Rattle.std.specs.Prelude.{◌||◌, reverse}
 use Rattle.std.proofs.lemmas.Bool.{cases_eq, cases_Bool, ne_eqb, false≢true}
 use Rattle.std.proofs.lemmas.List.{append_assoc, append-nil, length-append}
 use Rattle.std.proofs.lemmas.List.Sums.{sum_by-cons}
+use Rattle.std.proofs.lemmas.List.Sorted.{sum_by-IsPermutation, IsPermutation-reverse}
 use Rattle.std.proofs.lemmas.Map.Keys.{IsDistinct-from_apart, IsDistinct-cons}
 use Rattle.std.proofs.lemmas.Map.Steps.{length-le_from_distinct_below}
 use Rattle.tdm_problem.specs.Board.{Board}
@@ -14,7 +15,7 @@ use Rattle.tdm_problem.proofs.Walks.{AnyWire-from_links}
 use Rattle.shortest_forest.specs.Arcs.{both_ways, IsArcWalk}
 use Rattle.shortest_forest.specs.Labels.{Labels, label_at, wire_in, IsAtLabel, IsSource, IsWayBack, IsLabelled}
 use Rattle.shortest_forest.proofs.BaselineLaws.{other-end}
-use Rattle.shortest_forest.proofs.SearchLaws.{some_same}
+use Rattle.shortest_forest.proofs.BreadthFirstLaws.{some_same}
 use Rattle.shortest_forest.proofs.UnderWay.{distance_unique, wire_unique, not_source, label_below}
 
 -- a walk of wires that are as long in both directions
@@ -22,6 +23,17 @@ pub arc_walk-from_walk : (board : Board) (l : ℕ → ℕ) (a : ℕ) (es : List 
 arc_walk-from_walk board l a [] b walk = (walk, refl)
 arc_walk-from_walk board l a (e ∷ es) b walk =
     (walk.1.0, walk.1.1, (length_of l es, arc_walk-from_walk board l walk.1.0 es b walk.1.2, sum_by-cons l e es))
+
+pub arc_walk-to_walk : (board : Board) (l : ℕ → ℕ) (a : ℕ) (es : List ℕ) (b total : ℕ) → IsArcWalk board (both_ways l) a es b total → IsWalk board (AnyWire board) a es b × (total ≡ length_of l es)
+arc_walk-to_walk board l a [] b total walk = (walk.0, walk.1)
+arc_walk-to_walk board l a (e ∷ es) b total walk =
+    let rest = arc_walk-to_walk board l walk.0 es b walk.2.0 walk.2.1 in
+    let sum : total ≡ length_of l (e ∷ es) = omega (arith, walk.2.2, rest.1, sum_by-cons l e es) in
+    ((AnyWire-from_links board e a walk.0 walk.1, (walk.0, walk.1, rest.0)), sum)
+
+-- wires are as long back as forth
+pub length-reversed : (l : ℕ → ℕ) (es : List ℕ) → length_of l (reverse es) ≡ length_of l es
+length-reversed l es = sum_by-IsPermutation l es (reverse es) (IsPermutation-reverse es)
 
 -- where none of the numbers is f, each is another
 or_left : (a b : Bool) → (a || b) ≡ false → a ≡ false

@@ -1,5 +1,5 @@
 -- Laws on the ways back of a search, and on its cap.
-use Rattle.std.specs.Prelude.{◌≡◌, ℕ, ◌≤◌, List, reverse}
+use Rattle.std.specs.Prelude.{ℕ, ◌≤◌, List, reverse}
 use Rattle.tdm_problem.specs.Board.{Board}
 use Rattle.shortest_forest.specs.Arcs.{Arcs, IsArcWalk, IsLowerBound}
 use Rattle.shortest_forest.specs.Labels.{Labels, IsAtLabel, IsWayBack, IsLabelled, IsUnderWay, IsNearest}

@@ -1,6 +1,6 @@
 pub mod Baseline
 pub mod Reach
-pub mod Search
+pub mod BreadthFirst
 pub mod Climb
 pub mod Arcs
 pub mod Labels

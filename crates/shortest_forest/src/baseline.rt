@@ -1,5 +1,5 @@
 //! Baseline trees: the parent chains of a net's FPGAs, taken together.
-ghost use Rattle.std.specs.Prelude.{◌≡◌, ◌≢◌, ◌<◌, ◌⊎◌, ℕ, List, length, All, Contains, IsSome, IfOk, OnOk, IfNone, IfSome, OnSome};
+ghost use Rattle.std.specs.Prelude.{◌≡◌, ◌<◌, ◌⊎◌, ℕ, List, length, All, Contains, IsSome, IfOk, OnOk, IfNone, IfSome, OnSome};
 ghost use Rattle.tdm_problem.specs.Board.{Board};
 ghost use Rattle.tdm_problem.specs.Walk.{IsConnectable, IsMinimalTree};
 ghost use Rattle.board_graph.specs.Graph.{graph_of, board_of};
@@ -8,9 +8,9 @@ ghost use Rattle.shortest_forest.specs.Reach.{distance_of, IsHopForest};
 ghost use Rattle.shortest_forest.specs.Climb.{IsMarked, IsCollected};
 
 use crate::hop_forest::Forest;
+use crate::wire_ends::other_end;
 use board_graph::BoardGraph;
 use std::alloc::{AllocError, Global};
-use tdm_problem::Wire;
 
 /// The baseline tree of `terminals`, wires rising: the parent chains of all of them to the root. None where
 /// all wires of the graph together do not join them. The forest is what [`crate::hops`] answers on this
@@ -76,12 +76,4 @@ fn climb(
         }
     }
     Ok(())
-}
-
-/// The end of a wire that is not FPGA `f`.
-pub fn other_end(wire: Wire, f: u32) -> u32
-    ensures first { wire.a ≡ f → result ≡ wire.b }
-    ensures second { wire.a ≢ f → result ≡ wire.a }
-{
-    if wire.a == f { wire.b } else { wire.a }
 }

@@ -2,9 +2,9 @@
 ghost use Rattle.std.specs.Prelude.{◌≡◌, ◌<◌, ℕ, length, slice_index_or, None, IfOk, MatchOption};
 ghost use Rattle.board_graph.specs.Graph.{IsGraph, board_of};
 ghost use Rattle.shortest_forest.specs.Reach.{distance_of, parent_of, IsHopForest};
-ghost use Rattle.shortest_forest.specs.Search.{LeadsNearer, IsFirstNearer};
+ghost use Rattle.shortest_forest.specs.BreadthFirst.{LeadsNearer, IsFirstNearer};
 
-use crate::search::{distances_from, nearer_wire};
+use crate::breadth_first::{distances_from, nearer_wire};
 use board_graph::BoardGraph;
 use std::alloc::{AllocError, Global};
 use std::marker::Model;

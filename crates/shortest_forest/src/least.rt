@@ -8,9 +8,9 @@ ghost use Rattle.shortest_forest.specs.Reach.{HasNoWalk};
 ghost use Rattle.shortest_forest.specs.Settled.{IsAllSettled};
 
 use crate::hop_forest::Forest;
-use crate::labels::Search;
 use crate::lengths::{BothWays, Lengths, NoBound};
 use crate::nearest::{MOST_CAP, nearest_goal};
+use crate::search::Search;
 use board_graph::BoardGraph;
 use std::alloc::{AllocError, Global};
 

@@ -5,11 +5,11 @@
 #[cfg(test)]
 mod arc_tests;
 mod baseline;
+mod breadth_first;
 #[cfg(test)]
 mod definitions;
 mod hop_forest;
 mod label;
-mod labels;
 mod laws;
 mod least;
 #[cfg(test)]
@@ -21,13 +21,15 @@ mod stamped;
 #[cfg(test)]
 mod tests;
 mod way;
+mod wire_ends;
 
-pub use baseline::{base_tree, other_end};
+pub use baseline::base_tree;
 pub use hop_forest::{Forest, hops};
 pub use label::Label;
-pub use labels::Search;
 pub use laws::{caps_may_fall, ways_back_are_walks};
 pub use least::{forest, settle_all};
 pub use lengths::{ArcLengths, BothWays, Lengths, LowerBounds, NoBound};
 pub use nearest::{MOST_CAP, nearest_goal};
+pub use search::Search;
 pub use way::way_back;
+pub use wire_ends::other_end;

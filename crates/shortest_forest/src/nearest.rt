@@ -3,8 +3,8 @@ ghost use Rattle.std.specs.Prelude.{◌≡◌, ◌+◌, ◌-◌, ◌^◌, ◌<�
 ghost use Rattle.board_graph.specs.Graph.{board_of, IsGraph};
 ghost use Rattle.shortest_forest.specs.Labels.{IsSource, IsUnderWay, IsNearest, AreFar, IsPassing, IsReached, KeepsMarks, GoesOn};
 
-use crate::labels::Search;
 use crate::lengths::{ArcLengths, LowerBounds};
+use crate::search::Search;
 use board_graph::BoardGraph;
 use std::alloc::AllocError;
 
@@ -78,37 +78,37 @@ fn pass<A: ArcLengths, B: LowerBounds>(
     ensures marks { KeepsMarks search.old search.new }
     ensures on { OnOk result (GoesOn search.old search.new) }
 {
-    for x in graph.neighbours(f) {
-        let length = arcs.arc_len(x.wire, f, x.fpga);
+    for neighbour in graph.neighbours(f) {
+        let length = arcs.arc_len(neighbour.wire, f, neighbour.fpga);
         let far = distance + length;
-        reach(search, x.wire, x.fpga, far, bounds, cap)?;
+        reach(search, neighbour.fpga, neighbour.wire, far, bounds, cap)?;
     }
     Ok(())
 }
 
-/// Gives FPGA `v` this distance and wire `e`, if that is shorter than its label, and below the cap with the
-/// lower bound.
+/// Gives an FPGA this distance and the wire by which the way enters it, if that is shorter than its label, and
+/// below the cap with the lower bound.
 fn reach<B: LowerBounds>(
     search: &mut Search,
-    e: u32,
-    v: u32,
+    fpga: u32,
+    wire: u32,
     distance: u64,
     bounds: &B,
     cap: u64,
 ) -> Result<(), AllocError>
-    requires there { v < length search.old.labels }
-    requires bounds { v < B.bounds_covered bounds.now }
+    requires there { fpga < length search.old.labels }
+    requires bounds { fpga < B.bounds_covered bounds.now }
     ensures reached { OnOk result
-        (IsReached (B.lower_bound bounds.now) cap v e distance search.old search.new) }
+        (IsReached (B.lower_bound bounds.now) cap fpga wire distance search.old search.new) }
     ensures marks { KeepsMarks search.old search.new }
 {
-    if let Some(near) = search.distance(v) {
+    if let Some(near) = search.distance(fpga) {
         if near <= distance {
             return Ok(());
         }
     }
-    if distance < cap && bounds.bound_of(v) < cap - distance {
-        search.lower(v, distance, Some(e))?;
+    if distance < cap && bounds.bound_of(fpga) < cap - distance {
+        search.lower(fpga, distance, Some(wire))?;
     }
     Ok(())
 }

@@ -13,16 +13,16 @@ use Rattle.shortest_forest.specs.Arcs.{both_ways, IsLowerBound}
 use Rattle.shortest_forest.specs.Labels.{Labels}
 use Rattle.shortest_forest.proofs.ClimbLaws.{sorted_rising}
 use Rattle.shortest_forest.proofs.SameBoard.{Links-same}
+use Rattle.shortest_forest.proofs.WayLaws.{arc_walk-to_walk}
 use Rattle.steiner_build.specs.Building.{IsBelowWays, IsWithinWalks}
 use Rattle.steiner_build.specs.Joining.{AreOthers, HasNoGoals, IsJoining, IsSomeBeyond}
 use Rattle.steiner_build.proofs.LengthLaws.{any-walk, walk-few, length-few}
-use Rattle.steiner_build.proofs.WayLaws.{arc_walk-to}
 
 -- bounds of ways are bounds of ways to the goals
 pub lower-bound : (board : Board) (l : ℕ → ℕ) (start : ℕ) (terminals : List ℕ) (bound : ℕ → ℕ) (goals : List Bool) → IsBelowWays board l start terminals bound → AreOthers terminals start goals → IsLowerBound board (both_ways l) goals bound
 lower-bound board l start terminals bound goals lawful others f es g total marked walk =
     let other = (others g).0 marked in
-    let way = arc_walk-to board l f es g total walk in
+    let way = arc_walk-to_walk board l f es g total walk in
     let least : bound f ≤ length_of l es = lawful f g es other.0 other.1 way.0 in
     omega (arith, least, way.1)
 

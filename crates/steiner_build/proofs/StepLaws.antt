@@ -1,25 +1,16 @@
 -- The nearest goal with its way back is a step by which the tree grows.
-use Rattle.std.proofs.Common.{◌≡◌, ℕ, ◌≤◌, false, List, [], ◌∷◌, Option, None, ◌++◌, ◌-◌, length, take, drop, refl, sym, ap, ◌∙◌, subst, inl, inr, ⊎_elim, arith}
+use Rattle.std.proofs.Common.{◌≡◌, ℕ, false, List, Option, None, ◌++◌, ◌-◌, length, take, drop, sym, ap, ◌∙◌, subst, inl, inr, ⊎_elim, arith}
 use Rattle.std.specs.Prelude.{slice_set, slice_index_or, reverse, ◌↔◌}
-use Rattle.std.proofs.lemmas.List.Sums.{sum_by-append, sum_by-cons}
-use Rattle.std.proofs.lemmas.List.{reverse-append, take_rest, drop_at}
+use Rattle.std.proofs.lemmas.List.{take_rest, drop_at}
 use Rattle.std.specs.Option.{unwrap_or}
 use Rattle.tdm_problem.specs.Board.{Board}
-use Rattle.tdm_problem.specs.Walk.{IsWalk, AnyWire}
 use Rattle.tdm_problem.specs.Distance.{length_of}
-use Rattle.tdm_problem.proofs.Walks.{IsWalk-reverse}
 use Rattle.shortest_forest.specs.Arcs.{both_ways, IsGoal, IsLowerBound}
 use Rattle.shortest_forest.specs.Labels.{Labels, label_at, distance_in, IsAtLabel, IsSource, IsWayBack, IsUnderWay, IsNearest, AreFar, KeepsMarks}
-use Rattle.shortest_forest.proofs.WayLaws.{way_back-walk, way_back-source, arc_walk-from_walk}
+use Rattle.shortest_forest.proofs.ArcWays.{nearest-way-law}
+use Rattle.shortest_forest.proofs.WayLaws.{arc_walk-from_walk, arc_walk-to_walk, length-reversed}
 use Rattle.steiner_build.specs.Joining.{IsTakenIn, IsWithinGoals, IsJoinedBy}
 use Rattle.steiner_build.proofs.WayLaws.{way-branch, branch-as}
-
--- a list is as long back as forth
-length-reverse : (l : ℕ → ℕ) (es : List ℕ) → length_of l (reverse es) ≡ length_of l es
-length-reverse l [] = refl
-length-reverse l (e ∷ es) =
-    let split : length_of l (reverse (e ∷ es)) ≡ length_of l (reverse es ++ e ∷ []) = ap (length_of l) (reverse-append (e ∷ []) es) in
-    omega (arith, split, sum_by-append l (reverse es) (e ∷ []), length-reverse l es, sum_by-cons l e es, sum_by-cons l e [])
 
 -- what was appended is the part past the list as it was
 pub appended-part : (old es new : List ℕ) (n : ℕ) → n ≡ length old → new ≡ old ++ es → take (length new - n) (drop n new) ≡ es
@@ -63,7 +54,7 @@ module _ (board : Board) (l : ℕ → ℕ) (bound : ℕ → ℕ) (cap : ℕ) (ol
         λ h. (taken x).1 (⊎_elim (λ on. inl on) (λ is. inr (is-source x ((sources x).1 is))) h),
       );
       goals = same ∙ unmarked ∙ ap (λ gs. slice_set gs goal false) marks.goals;
-      total = omega (arith, shorter, longer);
+      total = as_long;
       least = near-goals;
     }
       where
@@ -73,14 +64,8 @@ module _ (board : Board) (l : ℕ → ℕ) (bound : ℕ → ℕ) (cap : ℕ) (ol
         is-source : (x : ℕ) → IsSource mid x → IsSource left x
         is-source x is = ap (λ ls. slice_index_or ls x None) labels ∙ is
 
-        walk : IsWalk board (AnyWire board) goal es source × (length_of l es ≤ near.distance)
-        walk = way_back-walk board l mid under.labelled goal near.distance es source near.label way
-
-        shorter : length_of l es ≤ near.distance
-        shorter = walk.1
-
-        longer : near.distance ≤ length_of l es
-        longer =
-            let least = near-goals source goal (reverse es) ((sources source).0 (way_back-source board mid goal es source way)) (subst (λ gs. IsGoal gs goal) marks.goals near.marked)
-            (IsWalk-reverse board (AnyWire board) goal es source walk.0) in
-            omega (arith, least, length-reverse l es)
+        -- the way back, turned round, is a walk of the distance
+        as_long : near.distance ≡ length_of l es
+        as_long =
+            let forth = nearest-way-law board (both_ways l) mid under.labelled bound cap still-lawful goal near es source way in
+            (arc_walk-to_walk board l source (reverse es) goal near.distance forth).1 ∙ length-reversed l es

@@ -1,11 +1,6 @@
 -- The way back of a search is a path that the tree may grow by.
 use Rattle.std.proofs.Common.{◌≡◌, ℕ, ◌≤◌, List, [], ◌∷◌, length, ap, subst, inl, inr, arith}
-use Rattle.std.proofs.lemmas.List.Sums.{sum_by-cons}
 use Rattle.tdm_problem.specs.Board.{Board}
-use Rattle.tdm_problem.specs.Walk.{IsWalk, AnyWire}
-use Rattle.tdm_problem.specs.Distance.{length_of}
-use Rattle.tdm_problem.proofs.Walks.{AnyWire-from_links}
-use Rattle.shortest_forest.specs.Arcs.{both_ways, IsArcWalk}
 use Rattle.shortest_forest.specs.Labels.{Labels, IsSource, IsWayBack}
 use Rattle.shortest_forest.proofs.BaselineLaws.{other-end}
 use Rattle.shortest_forest.proofs.UnderWay.{not_source}
@@ -37,15 +32,6 @@ module _ (board : Board) (s : Labels) where
           omega (arith, ap length same, rest.2),
     ),
   )
-
--- ---- walks over arcs that are alike in both directions
-
-pub arc_walk-to : (board : Board) (l : ℕ → ℕ) (a : ℕ) (es : List ℕ) (b total : ℕ) → IsArcWalk board (both_ways l) a es b total → IsWalk board (AnyWire board) a es b × (total ≡ length_of l es)
-arc_walk-to board l a [] b total walk = (walk.0, walk.1)
-arc_walk-to board l a (e ∷ es) b total walk =
-    let rest = arc_walk-to board l walk.0 es b walk.2.0 walk.2.1 in
-    let sum : total ≡ length_of l (e ∷ es) = omega (arith, walk.2.2, rest.1, sum_by-cons l e es) in
-    ((AnyWire-from_links board e a walk.0 walk.1, (walk.0, walk.1, rest.0)), sum)
 
 -- a path under another word for what is reached
 pub branch-as : (board : Board) (a : ℕ) (es : List ℕ) (reached reached' : ℕ → Type 0) → ((f : ℕ) → reached f → reached' f) → ((f : ℕ) → reached' f → reached f) → IsBranch board reached a es → IsBranch board reached' a es

@@ -3,7 +3,7 @@ use Rattle.std.specs.Prelude.{MatchOption}
 use Rattle.std.proofs.lemmas.Bool.{cases_lt}
 use Rattle.std.proofs.lemmas.List.{length_push, get_or_append_left, get_or_push}
 use Rattle.board_graph.specs.Graph.{board_of}
-use Rattle.shortest_forest.specs.Search.{LeadsNearer, IsFirstNearer}
+use Rattle.shortest_forest.specs.BreadthFirst.{LeadsNearer, IsFirstNearer}
 use Rattle.shortest_forest.proofs.hop_forest.parents_of.Goals as goal
 
 pub loop-f-preserved : goal.loop-f-preserved

@@ -1,7 +1,7 @@
 use Rattle.std.proofs.Common.{◌≡◌, ℕ, ◌<◌, length, None, slice_index_or}
 use Rattle.std.specs.Prelude.{MatchOption}
 use Rattle.board_graph.specs.Graph.{board_of}
-use Rattle.shortest_forest.specs.Search.{LeadsNearer, IsFirstNearer}
+use Rattle.shortest_forest.specs.BreadthFirst.{LeadsNearer, IsFirstNearer}
 use Rattle.shortest_forest.proofs.hop_forest.parents_of.Given as goal
 
 abbrev pub invariant-loop-f : goal.invariant-loop-f

@@ -1,6 +1,5 @@
-use Rattle.std.proofs.Common.{◌≡◌, ℕ, ◌+◌, List, Result, Ok, Err, length, sym, ap, ◌∙◌, subst, arith}
-use Rattle.std.specs.Prelude.{OnErr}
-use Rattle.std.proofs.lemmas.List.{length_push}
+use Rattle.std.proofs.Common.{◌≡◌, ℕ, ◌+◌, List, length, take, sym, ap, ◌∙◌, subst, arith}
+use Rattle.std.proofs.lemmas.List.{length_push, take_at}
 use Rattle.tdm_problem.proofs.Walks.{AnyWire-from_links}
 use Rattle.board_graph.specs.Graph.{board_of}
 use Rattle.shortest_forest.proofs.ClimbLaws.{read_other}
@@ -20,7 +19,7 @@ wire-wire-requires c =
 pub loop-e-smaller : goal.loop-e-smaller
 loop-e-smaller c =
     let short = following_short (board_of c.args.graph.now) c.args.search.now c.args.f c.loop-e.at c.args.wires.now.items c.loop-e.wires.items c.loop-e.invariant.0 in
-    let more : length c.push.new.self.items ≡ length c.loop-e.wires.items + 1 = ap length c.in_ok-push.ensures.items ∙ length_push c.loop-e.wires.items c.in-Some.e in
+    let more : length c.push.new.self.items ≡ length c.loop-e.wires.items + 1 = ap length c.in_default-push.ensures.items ∙ length_push c.loop-e.wires.items c.in-Some.e in
     omega (arith, short, more, c.requires.count)
 
 pub loop-e-preserved : goal.loop-e-preserved
@@ -30,15 +29,13 @@ loop-e-preserved c =
     let end' = read_other board c.in-Some.e c.loop-e.at on.0 c.other_end-at.result c.wire-wire.result on.1 c.wire-wire.ensures.there c.wire-wire.ensures.joins c.other_end-at.ensures.first c.other_end-at.ensures.second in
     let P : ℕ → Type 0 = λ u. IsFollowing board c.args.search.now c.args.f u c.args.wires.now.items c.push.new.self.items in
     let Q : List ℕ → Type 0 = λ xs. IsFollowing board c.args.search.now c.args.f on.0 c.args.wires.now.items xs in
-    (subst P (sym end'.0) (subst Q (sym c.in_ok-push.ensures.items) on.2), end'.1)
+    (subst P (sym end'.0) (subst Q (sym c.in_default-push.ensures.items) on.2), end'.1)
 
--- what holds, holds after an error
-on-err : {T E : Type 0} (r : Result T E) (P : Type 0) → P → OnErr r P
-on-err (Ok x) P p = tt
-on-err (Err fault) P p = p
-
-pub returns-in_err-push-clause-err : goal.returns-in_err-push-clause-err
-returns-in_err-push-clause-err c = on-err c.from_residual.result _ (c.loop-e.invariant.0.taken, c.in_err-push.ensures.items ∙ c.loop-e.invariant.0.wires_are)
+pub returns-in-Err-clause-err : goal.returns-in-Err-clause-err
+returns-in-Err-clause-err c =
+    let following = c.loop-e.invariant.0 in
+    let count : length c.args.wires.now.items ≡ c.len-before.result = omega arith in
+    c.truncate.ensures.items ∙ ap (take c.len-before.result) (c.in-Err.ensures.items ∙ following.wires_are) ∙ take_at c.args.wires.now.items following.taken c.len-before.result count
 
 pub returns-clause-way : goal.returns-clause-way
 returns-clause-way c =

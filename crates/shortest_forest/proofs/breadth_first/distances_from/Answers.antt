@@ -1,8 +1,8 @@
 use Rattle.std.proofs.Common.{◌≡◌, ℕ, List, [], ◌∷◌, ◌++◌, Option, Some, None, set, slice_index, slice_index_or, ap, ◌∙◌, arith, rules}
 use Rattle.std.specs.Prelude.{replicate}
 use Rattle.board_graph.specs.Graph.{board_of}
-use Rattle.shortest_forest.proofs.SearchLaws.{none_at, IsSearch-start, AreHops-from_search, distance-lt}
-use Rattle.shortest_forest.proofs.search.distances_from.Goals as goal
+use Rattle.shortest_forest.proofs.BreadthFirstLaws.{none_at, IsSearch-start, AreHops-from_search, distance-lt}
+use Rattle.shortest_forest.proofs.breadth_first.distances_from.Goals as goal
 
 pub loop-head-init : goal.loop-head-init
 loop-head-init c =

@@ -4,7 +4,7 @@ use Rattle.std.proofs.lemmas.List.{length-set}
 use Rattle.shortest_forest.specs.Arcs.{IsGoal}
 use Rattle.shortest_forest.specs.Labels.{IsAtLabel}
 use Rattle.shortest_forest.proofs.UnderWay.{IsUnderWay-goals}
-use Rattle.shortest_forest.proofs.labels.Search.remove_goal.Goals as goal
+use Rattle.shortest_forest.proofs.search.Search.remove_goal.Goals as goal
 
 pub returns-clause-under_way : goal.returns-clause-under_way
 returns-clause-under_way c =

@@ -3,7 +3,7 @@ use Rattle.std.specs.Prelude.{replicate}
 use Rattle.std.proofs.lemmas.List.{length-map}
 use Rattle.shortest_forest.specs.Labels.{Labels}
 use Rattle.shortest_forest.specs.Stamps.{label_of}
-use Rattle.shortest_forest.proofs.labels.Search.restart.Goals as goal
+use Rattle.shortest_forest.proofs.search.Search.restart.Goals as goal
 
 pub returns-clause-labels : goal.returns-clause-labels
 returns-clause-labels c =

@@ -1,7 +1,7 @@
 use Rattle.std.proofs.Common.{◌≡◌, ◌-◌, slice_index}
 use Rattle.board_graph.specs.Graph.{board_of}
-use Rattle.shortest_forest.specs.Search.{IsSearch}
-use Rattle.shortest_forest.proofs.search.distances_from.Given as goal
+use Rattle.shortest_forest.specs.BreadthFirst.{IsSearch}
+use Rattle.shortest_forest.proofs.breadth_first.distances_from.Given as goal
 
 abbrev pub invariant-loop-head : goal.invariant-loop-head
 invariant-loop-head l =

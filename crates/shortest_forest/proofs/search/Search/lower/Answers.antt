@@ -5,7 +5,7 @@ use Rattle.std.specs.declared.cmp.Reverse.{Reverse}
 use Rattle.shortest_forest.specs.declared.label.Label.{Label}
 use Rattle.shortest_forest.specs.Labels.{Labels}
 use Rattle.shortest_forest.proofs.StampLaws.{labels_set}
-use Rattle.shortest_forest.proofs.labels.Search.lower.Goals as goal
+use Rattle.shortest_forest.proofs.search.Search.lower.Goals as goal
 
 pub returns-clause-lowered : goal.returns-clause-lowered
 returns-clause-lowered c =

@@ -4,7 +4,7 @@ use Rattle.std.proofs.lemmas.List.{length-set}
 use Rattle.shortest_forest.specs.Arcs.{IsGoal}
 use Rattle.shortest_forest.specs.Labels.{IsAtLabel, label_at}
 use Rattle.shortest_forest.proofs.UnderWay.{IsUnderWay-goals, unlabelled}
-use Rattle.shortest_forest.proofs.labels.Search.add_goal.Goals as goal
+use Rattle.shortest_forest.proofs.search.Search.add_goal.Goals as goal
 
 pub returns-clause-under_way : goal.returns-clause-under_way
 returns-clause-under_way c =

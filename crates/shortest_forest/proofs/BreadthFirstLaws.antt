@@ -9,7 +9,7 @@ use Rattle.tdm_problem.specs.Walk.{Links, IsWalk, AnyWire}
 use Rattle.tdm_problem.specs.Distance.{length_of, IsHopCount}
 use Rattle.tdm_problem.proofs.Walks.{AnyWire-from_links, IsWalk-append, IsWalk-one}
 use Rattle.shortest_forest.specs.Reach.{HasNoWalk, AreHops}
-use Rattle.shortest_forest.specs.Search.{IsAt, IsPassed, IsSearch, IsReached}
+use Rattle.shortest_forest.specs.BreadthFirst.{IsAt, IsPassed, IsSearch, IsReached}
 
 -- ---- lists of distances
 
