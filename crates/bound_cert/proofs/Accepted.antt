@@ -2,7 +2,8 @@
 use Rattle.std.proofs.Common.{◌≡◌, ℕ, zero, suc, ◌+◌, ◌<◌, ◌≤◌, cond, Bool, true, false, ◌||◌, ◌&&◌, List, [], ◌∷◌, length, replicate, Option, None, Some, Result, Ok, Err, refl, sym, ap, subst, ◌∙◌, arith}
 use Rattle.std.specs.Prelude.{◌==◌, not, nat_lt, All}
 use Rattle.std.proofs.lemmas.Bool.{ltb-false, eqb-true, eqb-false}
-use Rattle.std.proofs.lemmas.List.Elements.{All-nil, All-cons, All-replicate}
+use Rattle.std.proofs.lemmas.List.{length-replicate}
+use Rattle.std.proofs.lemmas.List.Elements.{All-nil, All-cons, All-weaker, All-replicate}
 use Rattle.tdm_lines.specs.declared.line.TokenFault.{TokenFault}
 use Rattle.tdm_lines.specs.declared.line.TokenFault.TheVariants as token
 use Rattle.tdm_lines.specs.Tokens.{tokens}
@@ -16,8 +17,7 @@ use Rattle.bound_cert.specs.Limits.{most_weight, most_length, most_unit, most_po
 use Rattle.bound_cert.specs.declared.refusal.CertTextKind.{CertTextKind}
 use Rattle.bound_cert.specs.declared.refusal.CertTextKind.TheVariants.{NoHeader, BadUnit, BadKind, MissingLine, WeightLimit, LengthLimit, UnknownPotential}
 use Rattle.bound_cert.specs.declared.refusal.CertRefusal.{CertRefusal}
-use Rattle.bound_cert.specs.Certificate.{Cert, IsCert, IsPotential, HasLengths}
-use Rattle.bound_cert.specs.CertReader.{HasUnit}
+use Rattle.bound_cert.specs.Certificate.{Cert, IsCert, IsCertFor, IsPotential, HasUnit, HasLengths}
 use Rattle.bound_cert.specs.CertReading.{◌>>=◌, refused, unless_bad, kind_said, count_said, header_said, number_said, potential_said, next_line, line_from, section_from, lengths_from, unless_more, cert_from, cert_of}
 
 -- ---- where there is no refusal, each step says something
@@ -161,28 +161,34 @@ module _ (after largest : ℕ) where
         subst (λ (o : List A × List Line). All P o.0 × (length o.0 ≡ suc count) × AreWithin largest o.1) (ok-equal _ out rest.2) (All-cons P first.0.0 rest.0.0 here.0 later.0, ap suc later.1, later.2)
 
   -- the lengths, as the kind has them
-  lengths-say : (kind : CertKind) (wires : ℕ) (lines : List Line) (out : List ℕ × List Line) → HasUnit kind → lengths_from after kind wires lines ≡ Ok out → AreWithin largest lines → HasLengths kind out.0 × AreWithin largest out.1
+  lengths-say : (kind : CertKind) (wires : ℕ) (lines : List Line) (out : List ℕ × List Line) → HasUnit kind → lengths_from after kind wires lines ≡ Ok out → AreWithin largest lines → HasLengths kind out.0 × (length out.0 ≡ wires) × AreWithin largest out.1
   lengths-say Share wires lines out has ok are =
-      let said = section-says (number_said LengthLimit most_length) (λ l. l ≤ most_length) (λ line numbers x within. number-within LengthLimit most_length line numbers x) wires lines out ok are in
-      (said.0, said.2)
+      section-says (number_said LengthLimit most_length) (λ l. l ≤ most_length) (λ line numbers x within. number-within LengthLimit most_length line numbers x) wires lines out ok are
   lengths-say (Hop unit) wires lines out has ok are =
-      subst (λ (o : List ℕ × List Line). HasLengths (Hop unit) o.0 × AreWithin largest o.1) (ok-equal (replicate wires unit, lines) out ok) ((has.0, has.1, All-replicate (λ l. l ≡ unit) wires unit refl), are)
+      subst (λ (o : List ℕ × List Line). HasLengths (Hop unit) o.0 × (length o.0 ≡ wires) × AreWithin largest o.1) (ok-equal (replicate wires unit, lines) out ok)
+      ((has.0, has.1, All-replicate (λ l. l ≡ unit) wires unit refl), length-replicate wires unit, are)
 
 -- ---- the whole text
 
--- what the lines of a potential say
-potential-holds : (fpgas line : ℕ) (numbers out : List ℕ) → 0 < fpgas → All (λ n. n ≤ most_potential_value) numbers → potential_said fpgas line numbers ≡ Ok out → IsPotential out
+-- a potential has a value for each FPGA
+record IsPotentialOf (fpgas : ℕ) (potential : List ℕ) : Type 0 where
+  is : IsPotential potential
+  count : length potential ≡ fpgas
+
+potential-holds : (fpgas line : ℕ) (numbers out : List ℕ) → 0 < fpgas → All (λ n. n ≤ most_potential_value) numbers → potential_said fpgas line numbers ≡ Ok out → IsPotentialOf fpgas out
 potential-holds fpgas line numbers out some within ok =
     let said = potential-within fpgas line numbers out ok in
-    record { some = omega (arith, said.1); values = subst (All (λ n. n ≤ most_potential_value)) said.0 within }
+    record { is = record { some = omega (arith, said.1); values = subst (All (λ n. n ≤ most_potential_value)) said.0 within }; count = said.1 }
 
 -- the potentials, of which there are none where there are no FPGAs
-potentials-say : (after fpgas count : ℕ) (lines : List Line) (out : List (List ℕ) × List Line) → (0 < count → 0 < fpgas) → section_from after (potential_said fpgas) count lines ≡ Ok out → AreWithin most_potential_value lines → All IsPotential out.0 × (length out.0 ≡ count) × AreWithin most_potential_value out.1
-potentials-say after fpgas zero lines out some ok are = subst (λ (o : List (List ℕ) × List Line). All IsPotential o.0 × (length o.0 ≡ 0) × AreWithin most_potential_value o.1) (ok-equal ([], lines) out ok) (All-nil IsPotential, refl, are)
+potentials-say : (after fpgas count : ℕ) (lines : List Line) (out : List (List ℕ) × List Line) → (0 < count → 0 < fpgas) → section_from after (potential_said fpgas) count lines ≡ Ok out → AreWithin most_potential_value lines
+    → All (IsPotentialOf fpgas) out.0 × (length out.0 ≡ count) × AreWithin most_potential_value out.1
+potentials-say after fpgas zero lines out some ok are =
+    subst (λ (o : List (List ℕ) × List Line). All (IsPotentialOf fpgas) o.0 × (length o.0 ≡ 0) × AreWithin most_potential_value o.1) (ok-equal ([], lines) out ok) (All-nil (IsPotentialOf fpgas), refl, are)
 potentials-say after fpgas (suc count) lines out some ok are =
-    section-says after most_potential_value (potential_said fpgas) IsPotential (λ line numbers x within said. potential-holds fpgas line numbers x (some (omega arith)) within said) (suc count) lines out ok are
+    section-says after most_potential_value (potential_said fpgas) (IsPotentialOf fpgas) (λ line numbers x within said. potential-holds fpgas line numbers x (some (omega arith)) within said) (suc count) lines out ok are
 
-accepted-lines : (after : ℕ) (board : Board) (lines : List Line) (cert : Cert) → AreWithin most_potential_value lines → cert_from after board lines ≡ Ok cert → IsCert cert
+accepted-lines : (after : ℕ) (board : Board) (lines : List Line) (cert : Cert) → AreWithin most_potential_value lines → cert_from after board lines ≡ Ok cert → IsCert cert × IsCertFor board cert
 accepted-lines after board lines cert are ok =
     let header = bind-ok (line_from after NoHeader (header_said board.fpgas) lines) _ cert ok in
     let headed = line-says after most_potential_value (header_said board.fpgas) (IsHeader board.fpgas) (λ line numbers x within. header-within board.fpgas line numbers x) NoHeader lines header.0 header.1 are in
@@ -191,18 +197,32 @@ accepted-lines after board lines cert are ok =
     let lengths = bind-ok (lengths_from after header.0.0.kind (length board.wires) weights.0.1) _ cert weights.2 in
     let measured = lengths-say after most_potential_value header.0.0.kind (length board.wires) weights.0.1 lengths.0 headed.0.kind lengths.1 weighed.2 in
     let potentials = bind-ok (section_from after (potential_said board.fpgas) header.0.0.potentials lengths.0.1) _ cert lengths.2 in
-    let valued = potentials-say after board.fpgas header.0.0.potentials lengths.0.1 potentials.0 headed.0.some potentials.1 measured.1 in
+    let valued = potentials-say after board.fpgas header.0.0.potentials lengths.0.1 potentials.0 headed.0.some potentials.1 measured.2 in
     let choices = bind-ok (section_from after (number_said UnknownPotential header.0.0.potentials) (length board.nets) potentials.0.1) _ cert potentials.2 in
     let chosen = section-says after most_potential_value (number_said UnknownPotential header.0.0.potentials) (λ c. c ≤ header.0.0.potentials) (λ line numbers x within. number-within UnknownPotential header.0.0.potentials line numbers x) (length board.nets) potentials.0.1 choices.0 choices.1 valued.2 in
-    subst IsCert (unless_more-ok _ choices.0.1 cert choices.2) (record {
-      weights = weighed.0;
-      lengths = measured.0;
-      potential_limit = omega (arith, headed.0.few, valued.1);
-      potentials = valued.0;
-      choices = subst (λ count. All (λ c. c ≤ count) choices.0.0) (sym valued.1) chosen.0;
-    })
+    subst (λ (c : Cert). IsCert c × IsCertFor board c) (unless_more-ok _ choices.0.1 cert choices.2) (
+      record {
+        weights = weighed.0;
+        lengths = measured.0;
+        potential_limit = omega (arith, headed.0.few, valued.1);
+        potentials = All-weaker (IsPotentialOf board.fpgas) IsPotential (λ potential is. is.is) potentials.0.0 valued.0;
+        choices = subst (λ count. All (λ c. c ≤ count) choices.0.0) (sym valued.1) chosen.0;
+      },
+      record {
+        weights = weighed.1;
+        lengths = measured.1;
+        potentials = All-weaker (IsPotentialOf board.fpgas) (λ potential. length potential ≡ board.fpgas) (λ potential is. is.count) potentials.0.0 valued.0;
+        choices = chosen.1;
+      },
+    )
 
--- the numbers of the certificate that a text says keep to their ranges
-pub accepted-cert : (board : Board) (text : List ℕ) (cert : Cert) → cert_of board text ≡ Ok cert → IsCert cert
-accepted-cert board text cert ok =
+-- the certificate that a text says is one for the board, and its numbers keep to their ranges
+accepted : (board : Board) (text : List ℕ) (cert : Cert) → cert_of board text ≡ Ok cert → IsCert cert × IsCertFor board cert
+accepted board text cert ok =
     accepted-lines (line_after text) board (lines most_potential_value text) cert (AreWithin-lines_from most_potential_value 1 (pieces text)) (unless-ok _ _ _ cert ok).1
+
+pub accepted-cert : (board : Board) (text : List ℕ) (cert : Cert) → cert_of board text ≡ Ok cert → IsCert cert
+accepted-cert board text cert ok = (accepted board text cert ok).0
+
+pub accepted-for : (board : Board) (text : List ℕ) (cert : Cert) → cert_of board text ≡ Ok cert → IsCertFor board cert
+accepted-for board text cert ok = (accepted board text cert ok).1

@@ -5,7 +5,6 @@ pub mod NetSpreads
 pub mod HopBound
 pub mod ShareBound
 pub mod DualBound
-pub mod CertSections
 pub mod CertWriting
 pub mod CertSize
 pub mod CertReadsBack
@@ -32,4 +31,5 @@ pub mod Rooted
 pub mod ShareCerts
 pub mod WeightedCerts
 pub mod Accepted
+pub mod RoleLaws
 pub mod FloorLaws

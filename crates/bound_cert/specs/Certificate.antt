@@ -14,6 +14,11 @@ pub record Cert : Type 0 where
   pub potentials : List (List ℕ)
   pub choices : List ℕ
 
+-- the unit, where the kind has one, is in its range
+abbrev pub HasUnit : CertKind → Type 0
+HasUnit Share = Unit {0}
+HasUnit (Hop unit) = (0 < unit) × (unit ≤ most_unit)
+
 -- the lengths are as the kind has them: any, or each of them the unit
 abbrev pub HasLengths : CertKind → List ℕ → Type 0
 HasLengths Share lengths = All (λ l. l ≤ most_length) lengths

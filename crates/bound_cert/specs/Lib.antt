@@ -8,6 +8,7 @@ pub mod CertText
 pub mod CertKinds
 pub mod CertReading
 pub mod CertFaults
+pub mod Roles
 pub mod CertReader
 pub mod Sources
 pub mod Depths

@@ -2,7 +2,7 @@
 ghost use Rattle.std.specs.Prelude.{◌≤◌, ◌<◌, Ok, IfOk};
 ghost use Rattle.bound_cert.specs.CertReading.{kind_said, count_said, header_said};
 ghost use Rattle.bound_cert.specs.CertFaults.{Leads};
-ghost use Rattle.bound_cert.specs.CertReader.{HasUnit};
+ghost use Rattle.bound_cert.specs.Certificate.{HasUnit};
 ghost use Rattle.bound_cert.specs.Limits.{most_potentials};
 
 use crate::certificate::CertKind;

@@ -17,11 +17,14 @@ mod limits;
 mod maker_tests;
 mod potential;
 mod read;
+mod reader;
 mod refusal;
 mod repeated;
 mod roots;
+mod said;
 mod scaling;
 mod share_maker;
+mod state;
 #[cfg(test)]
 mod text_tests;
 mod weighted_maker;
@@ -35,6 +38,7 @@ pub use limits::{
     MAX_LENGTH, MAX_POTENTIAL_VALUE, MAX_POTENTIALS, MAX_UNIT, MAX_WEIGHT, UNIFORM_WEIGHT,
 };
 pub use read::{MAX_CERT_BYTES, read_cert};
+pub use reader::CertReader;
 pub use refusal::{CertFault, CertRefusal, CertTextKind};
 pub use share_maker::uniform_share_cert;
 pub use weighted_maker::weighted_share_cert;

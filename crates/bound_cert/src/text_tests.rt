@@ -1,5 +1,7 @@
 //! Certificates of small boards, read and written.
-use crate::{CertFault, CertKind, CertRefusal, CertTextKind, Certificate, read_cert, write_cert};
+use crate::{
+    CertFault, CertKind, CertReader, CertRefusal, CertTextKind, Certificate, read_cert, write_cert,
+};
 use std::alloc::Global;
 use std::process::Abort;
 use std::test::Fail;
@@ -26,7 +28,26 @@ fn board_of_three_nets(alloc: Global) -> Result<Problem, Fail> {
     Ok(draft.into_problem())
 }
 
-/// The text is refused, with this kind and this line.
+/// Reads a short text that is fed in pieces of this length, with an empty piece before each.
+fn read_in_pieces(
+    rt: &impl Abort,
+    alloc: Global,
+    text: &[u8],
+    length: usize,
+    problem: &Problem,
+) -> Result<Certificate, CertFault> {
+    let mut reader = CertReader::new(alloc, problem);
+    assert!(rt; length > 0);
+    for piece in text.chunks(length) {
+        assert!(rt; reader.fed() < 100 && piece.len() < 100);
+        reader.feed(&[])?;
+        reader.feed(piece)?;
+    }
+    assert!(rt; reader.fed() == text.len() as u64);
+    reader.end()
+}
+
+/// The text is refused, with this kind and this line, whole and in pieces.
 fn assert_refused(
     rt: &impl Abort,
     alloc: Global,
@@ -35,13 +56,17 @@ fn assert_refused(
     kind: CertTextKind,
     line: u32,
 ) {
+    let refusal = CertFault::Refused(CertRefusal { kind, line });
     let answer = read_cert(alloc, text, problem).err();
-    let refusal = CertRefusal { kind, line };
-    assert!(rt;
-        answer == Some(CertFault::Refused(refusal)),
-        "{}",
-        kind.name()
-    );
+    assert!(rt; answer == Some(refusal), "{}", kind.name());
+    for length in [1usize, 2, 7] {
+        let answer = read_in_pieces(rt, alloc, text, length, problem).err();
+        assert!(rt;
+            answer == Some(refusal),
+            "{} in pieces of {length}",
+            kind.name()
+        );
+    }
 }
 
 #[test]
@@ -98,6 +123,10 @@ fn refuses_the_first_line_at_fault(rt: HostRuntime) -> Result<(), Fail> {
     );
     let value = b"1 1 0 1\n1\n1\n0 1152921504606846976\n1\n";
     assert_refused(&rt, alloc, &problem, value, CertTextKind::NumberTooLarge, 4);
+    let long = b"0 0 0 0 0 0 0 0 0 0\n1";
+    assert_refused(&rt, alloc, &problem, long, CertTextKind::WrongCount, 1);
+    let longer = b"1 1 0 0 0 0 0 0 0 0 x";
+    assert_refused(&rt, alloc, &problem, longer, CertTextKind::BadNumber, 1);
     Ok(())
 }
 
@@ -116,16 +145,15 @@ fn write_file<D: Desk>(desk: &mut D, cert: &Certificate) -> Result<(), DeskFault
     Ok(())
 }
 
-/// The text reads as a certificate of this kind, which is written as the canonical text.
+/// What was read is a certificate of this kind, which is written as the canonical text.
 fn assert_canonical(
     rt: &impl Abort,
     alloc: Global,
-    problem: &Problem,
-    text: &[u8],
+    answer: Result<Certificate, CertFault>,
     kind: CertKind,
     canonical: &[u8],
 ) -> Result<(), Fail> {
-    let cert = match read_cert(alloc, text, problem) {
+    let cert = match answer {
         Ok(cert) => cert,
         Err(_) => {
             assert!(rt; false, "refused");
@@ -145,9 +173,17 @@ fn reads_and_writes_both_kinds(rt: HostRuntime) -> Result<(), Fail> {
     let problem = board_of_three_nets(alloc)?;
     let share = b" 1 1\t0 01\r\n1\n\n3\n0 3\n1\n1\n1";
     let canonical = b"1 1 0 1\n1\n3\n0 3\n1\n1\n1\n";
-    assert_canonical(&rt, alloc, &problem, share, CertKind::Share, canonical)?;
     let hop = b"1 2 1048576 1\n5\n0 1048576\n1\n0\n1\n";
     let kind = CertKind::Hop { unit: 1_048_576 };
-    assert_canonical(&rt, alloc, &problem, hop, kind, hop)?;
+    let whole = read_cert(alloc, share, &problem);
+    assert_canonical(&rt, alloc, whole, CertKind::Share, canonical)?;
+    let whole = read_cert(alloc, hop, &problem);
+    assert_canonical(&rt, alloc, whole, kind, hop)?;
+    for length in [1usize, 2, 7, 18] {
+        let answer = read_in_pieces(&rt, alloc, share, length, &problem);
+        assert_canonical(&rt, alloc, answer, CertKind::Share, canonical)?;
+        let answer = read_in_pieces(&rt, alloc, hop, length, &problem);
+        assert_canonical(&rt, alloc, answer, kind, hop)?;
+    }
     Ok(())
 }
