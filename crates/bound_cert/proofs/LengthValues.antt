@@ -1,5 +1,5 @@
 -- The distances of a forest over lengths as the values of a potential.
-use Rattle.std.proofs.Common.{◌≡◌, ℕ, ◌*◌, ◌<◌, ◌≤◌, List, [], ◌∷◌, Option, Some, length, map, refl, subst, arith}
+use Rattle.std.proofs.Common.{◌≡◌, ℕ, ◌*◌, ◌<◌, ◌≤◌, List, [], ◌∷◌, Option, length, map, refl, subst, arith}
 use Rattle.std.specs.Prelude.{All, MatchOption, reverse}
 use Rattle.std.proofs.Math.Nat.{mul-le-mul_right}
 use Rattle.std.proofs.lemmas.List.{length-reverse}
@@ -9,7 +9,7 @@ use Rattle.tdm_problem.specs.Distance.{length_of, IsDistance}
 use Rattle.tdm_problem.specs.Walk.{IsWalk, AnyWire}
 use Rattle.tdm_problem.proofs.Walks.{AnyWire-from_links, IsWalk-reverse}
 use Rattle.board_graph.specs.Graph.{Graph, IsGraph, graph_of, board_of}
-use Rattle.shortest_forest.specs.Reach.{Reach, HasNoWalk, distance_of}
+use Rattle.shortest_forest.specs.Reach.{Reach, HasNoWalk}
 use Rattle.shortest_forest.specs.LeastForest.{IsWayUp, IsLeastForest}
 use Rattle.shortest_forest.proofs.BreadthFirstLaws.{at_below}
 use Rattle.bound_cert.specs.Makers.{IsRootPotential}

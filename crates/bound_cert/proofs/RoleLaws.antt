@@ -1,5 +1,5 @@
 -- What a line makes of what is said, and that what is kept stays within its ranges.
-use Rattle.std.proofs.Common.{◌≡◌, ◌≢◌, ℕ, zero, suc, ◌+◌, ◌-◌, ◌<◌, ◌≤◌, ◌^◌, List, [], ◌∷◌, ◌++◌, length, take, All, Option, None, Some, Result, Ok, Err, refl, sym, ap, ◌∙◌, subst, ⊎_elim, arith, append_assoc, length-take-le, get_or}
+use Rattle.std.proofs.Common.{◌≡◌, ◌≢◌, ℕ, suc, ◌+◌, ◌-◌, ◌<◌, ◌≤◌, ◌^◌, List, [], ◌∷◌, ◌++◌, length, take, All, Option, None, Some, Result, Ok, Err, refl, sym, ap, ◌∙◌, subst, ⊎_elim, arith, append_assoc, length-take-le, get_or}
 use Rattle.std.proofs.lemmas.Bool.{le-ltb, ne_eqb, cases_lt}
 use Rattle.std.proofs.lemmas.List.{append-nil, take_all}
 use Rattle.std.proofs.lemmas.List.Elements.{All-push}
@@ -19,7 +19,7 @@ use Rattle.bound_cert.specs.declared.refusal.CertTextKind.{CertTextKind}
 use Rattle.bound_cert.specs.declared.refusal.CertTextKind.TheVariants.{MissingLine}
 use Rattle.bound_cert.specs.declared.state.Sizes.{Sizes}
 use Rattle.bound_cert.specs.Certificate.{Cert, HasLengths, IsPotential}
-use Rattle.bound_cert.specs.CertFaults.{IsFaultOf, Leads}
+use Rattle.bound_cert.specs.CertFaults.{IsFaultOf}
 use Rattle.bound_cert.specs.CertReader.{listed, sizes_of}
 use Rattle.bound_cert.specs.CertReading.{refused, header_said, number_said, potential_said, section_from, cert_of, ◌>>=◌}
 use Rattle.bound_cert.specs.Limits.{most_weight, most_length, most_potential_value}

@@ -1,6 +1,6 @@
 use Rattle.std.proofs.Common.{◌≡◌, ℕ, ◌^◌, ◌≤◌, List, [], length, ap, sym, subst, ◌∙◌, arith}
 use Rattle.std.proofs.lemmas.List.{append-nil}
-use Rattle.tdm_lines.specs.Lines.{Line, lines, line_after}
+use Rattle.tdm_lines.specs.Lines.{lines, line_after}
 use Rattle.tdm_problem.specs.Board.{Board}
 use Rattle.bound_cert.specs.declared.state.CertState.{CertState}
 use Rattle.bound_cert.specs.declared.state.Sizes.{Sizes}

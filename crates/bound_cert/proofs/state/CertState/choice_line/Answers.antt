@@ -1,4 +1,4 @@
-use Rattle.std.proofs.Common.{◌≡◌, ℕ, ◌∷◌, [], ◌++◌, ◌-◌, List, ap, sym, subst, ◌∙◌, arith, rules}
+use Rattle.std.proofs.Common.{◌≡◌, ℕ, ◌∷◌, [], ◌++◌, ◌-◌, List, ap, sym, subst, ◌∙◌, rules}
 use Rattle.std.proofs.lemmas.Grind.{common_steps}
 use Rattle.tdm_lines.specs.Lines.{Line}
 use Rattle.tdm_lines.specs.SoFar.{ended_line}
