@@ -1,5 +1,6 @@
 -- What a line that ends makes of what is said.
-use Rattle.std.proofs.Common.{◌≡◌, ℕ, suc, ◌-◌, ◌<◌, List, ◌∷◌, length, Option, None, Some, Err, refl, sym, ◌∙◌, ap, arith}
+use Rattle.std.proofs.Common.{◌≡◌, ℕ, suc, ◌-◌, ◌<◌, List, ◌∷◌, length, Option, None, Some, Err, refl, sym, ◌∙◌, ap, ◌≤◌, ⊎_elim, arith}
+use Rattle.std.proofs.lemmas.Bool.{cases_lt}
 use Rattle.tdm_lines.specs.Lines.{Line}
 use Rattle.tdm_lines.specs.SoFar.{ended_line}
 use Rattle.tdm_lines.specs.Written.{plain_line}
@@ -14,18 +15,14 @@ use Rattle.contest_input.specs.declared.roles.Role.{Role}
 use Rattle.contest_input.specs.declared.roles.Role.TheVariants as role
 use Rattle.contest_input.specs.Faults.{sizes_of, wire_of, wire_fault, net_fault, group_fault}
 use Rattle.contest_input.specs.BoardText.{refused_at, unless}
-use Rattle.contest_input.specs.Roles.{said_in, line_kind, IsInRole, in_section, in_wires, in_nets, in_groups, at_end}
+use Rattle.contest_input.specs.Roles.{said_in, line_kind, room_of, IsKeptOf, IsInRole, in_section, in_wires, in_nets, in_groups, at_end}
 use Rattle.contest_input.proofs.WholeText.{by_sections, bare}
 use Rattle.contest_input.proofs.RoleLaws.{section-refused}
+use Rattle.contest_input.proofs.KeptNumbers.{judged, long-refused}
 
 pub number-is : (n : ℕ) (fault : Option TokenFault) (numbers : List ℕ) → (ended_line n fault numbers).number ≡ n
 number-is n None numbers = refl
 number-is n (Some f) numbers = refl
-
--- the numbers of a line at fault are nothing to it
-pub same-line : (n : ℕ) (fault : Option TokenFault) (items numbers : List ℕ) → (fault ≡ None → items ≡ numbers) → ended_line n fault numbers ≡ ended_line n fault items
-same-line n None items numbers same = ap (plain_line n) (sym (same refl))
-same-line n (Some f) items numbers same = refl
 
 -- a line at fault decides, whatever comes
 pub said-refused : (r : Role) (sizes : Sizes) (board : Board) (left listed end : ℕ) (line : Line) (more : List Line) (kind : BoardKind) → IsInRole r sizes board left listed → line_kind r sizes listed line ≡ Some kind
@@ -80,13 +77,20 @@ refused-there (role.Refused why) sizes listed n f numbers is = (why, refl)
 
 -- a line without fault is taken, and a refused text stays so
 pub taken-line : (r : Role) (sizes : Sizes) (board : Board) (left listed : ℕ) (r' : Role) (sizes' : Sizes) (board' : Board) (left' listed' : ℕ) (n : ℕ) (fault : Option TokenFault) (items numbers : List ℕ) (count : ℕ)
-    → 0 < count → (fault ≡ None → (count ≡ length numbers) × (items ≡ numbers)) → line_kind r sizes listed (ended_line n fault items) ≡ None
+    → 0 < count → (fault ≡ None → (count ≡ length numbers) × IsKeptOf (room_of r) items numbers) → line_kind r sizes listed (ended_line n fault items) ≡ None
     → ((why : BoardRefusal) → r ≡ role.Refused why → r' ≡ role.Refused why)
     → ((m end : ℕ) (more : List Line) → 0 < length items → said_in r sizes board left listed end (plain_line m items ∷ more) ≡ said_in r' sizes' board' left' listed' end more)
     → (end : ℕ) (more : List Line) → said_in r sizes board left listed end (ended_line n fault numbers ∷ more) ≡ said_in r' sizes' board' left' listed' end more
 taken-line r sizes board left listed r' sizes' board' left' listed' n None items numbers count some known clean stays said end more =
-    let both = known refl in
-    ap (λ ns. said_in r sizes board left listed end (plain_line n ns ∷ more)) (sym both.1) ∙ said n end more (omega (arith, both.0, ap length both.1))
+    let counted : count ≡ length numbers = (known refl).0 in
+    let k : IsKeptOf (room_of r) items numbers = (known refl).1 in
+    ⊎_elim
+    (λ (few : length numbers < room_of r). ap (λ ns. said_in r sizes board left listed end (plain_line n ns ∷ more)) (sym (k.short few)) ∙ said n end more (omega (arith, counted, ap length (k.short few))))
+    (λ (many : room_of r ≤ length numbers).
+    let there = long-refused sizes listed n r numbers many (sym (judged sizes listed n r None items numbers (λ _. k)) ∙ clean) in
+    ap (λ x. said_in x sizes board left listed end (plain_line n numbers ∷ more)) there.1
+    ∙ sym (ap (λ x. said_in x sizes' board' left' listed' end more) (stays there.0 there.1)))
+    (cases_lt (length numbers) (room_of r))
 taken-line r sizes board left listed r' sizes' board' left' listed' n (Some f) items numbers count some known clean stays said end more =
     let there = refused-there r sizes listed n f items clean in
     ap (λ x. said_in x sizes board left listed end (ended_line n (Some f) numbers ∷ more)) there.1

@@ -1,5 +1,6 @@
 -- Where a board text stands: what its lines so far have said, and what the lines that still come make of that.
-use Rattle.std.specs.Prelude.{◌≡◌, ℕ, zero, suc, ◌+◌, ◌^◌, ◌<◌, ◌≤◌, List, [], ◌∷◌, ◌++◌, map, take, drop, length, sum_by, Option, None, Some, Result, Ok, Err}
+use Rattle.std.specs.Prelude.{◌≡◌, ℕ, zero, suc, ◌+◌, ◌^◌, ◌<◌, ◌≤◌, List, [], ◌∷◌, ◌++◌, map, take, drop, length, sum_by, nat_le, Option, None, Some, Result, Ok, Err}
+use Rattle.std.specs.List.{list_any}
 use Rattle.tdm_lines.specs.Lines.{Line}
 use Rattle.tdm_problem.specs.Board.{Board, without_repeats}
 use Rattle.tdm_problem.specs.Limits.{most_wires, most_nets, most_groups, most_listed_fpgas, most_listed_nets}
@@ -63,9 +64,25 @@ said_in (role.Refused refusal) sizes board left listed end lines = Err refusal
 abbrev pub Reads : BoardState → List Line → Type 0
 Reads state done = (end : ℕ) (more : List Line) → board_of_lines end (done ++ more) ≡ said_in state.role state.sizes state.draft state.left state.listed end more
 
--- the line in progress has these numbers
+-- one number more than a line without fault can have
+abbrev pub room_of : Role → ℕ
+room_of role.Header = 5
+room_of role.Wire = 3
+room_of role.Net = most_listed_fpgas + 1
+room_of role.Group = most_listed_nets + 1
+room_of role.End = 1
+room_of (role.Refused refusal) = 1
+
+-- what is kept of a line with these numbers: all of them where they are fewer than there is room for, and else as many as there
+-- is room for, with one that is too large where the line has one
+pub record IsKeptOf (room : ℕ) (kept numbers : List ℕ) : Type 0 where
+  pub short : length numbers < room → kept ≡ numbers
+  pub long : room ≤ length numbers → room ≤ length kept
+  pub same : (limit : ℕ) → list_any (nat_le limit) kept ≡ list_any (nat_le limit) numbers
+
+-- the line in progress has these numbers so far
 abbrev pub Holds : BoardState → List ℕ → Type 0
-Holds state numbers = state.numbers.items ≡ numbers
+Holds state numbers = IsKeptOf (room_of state.role) state.numbers.items numbers
 
 -- what is wrong with the next line, if anything; a refused text has no further fault
 abbrev pub line_kind : Role → Sizes → ℕ → Line → Option BoardKind

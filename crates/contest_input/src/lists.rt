@@ -1,9 +1,10 @@
 //! Lines that list things by their numbers.
-ghost use Rattle.std.specs.Prelude.{ℕ, List, ◌≡◌, ◌<◌, ◌≤◌, ◌^◌, All, OnOk, IfNone, nat_le};
+ghost use Rattle.std.specs.Prelude.{ℕ, List, [], ◌∷◌, ◌++◌, ◌≡◌, ◌<◌, ◌≤◌, ◌^◌, All, OnOk, IfNone, nat_le};
 ghost use Rattle.std.specs.Bool.{OnFalse};
 ghost use Rattle.std.specs.List.{list_any};
 ghost use Rattle.contest_input.specs.Faults.{net_fault, group_fault};
 ghost use Rattle.contest_input.specs.Lists.{list_fault};
+ghost use Rattle.contest_input.specs.Roles.{IsKeptOf};
 
 use crate::kind::BoardKind;
 use std::alloc::AllocError;
@@ -68,6 +69,25 @@ pub(crate) fn list_fault(listing: Listing, listed: u64, numbers: &[u64]) -> Opti
         return Some(BoardKind::TotalLimit);
     }
     None
+}
+
+/// Keeps one number more of a line. Of a line with as many numbers as there is room for, or more, the last that is kept
+/// is the largest of those that came since the room was full.
+pub(crate) fn keep(numbers: &mut Vec<u64>, room: usize, number: u64) -> Result<(), AllocError>
+    requires { 0 < room }
+    ensures { OnOk result ((whole : List ℕ) → IsKeptOf room numbers.old.items whole
+        → IsKeptOf room numbers.new.items (whole ++ number ∷ [])) }
+{
+    if numbers.len() < room {
+        numbers.push(number)?;
+        return Ok(());
+    }
+    let last = numbers.len() - 1;
+    if numbers[last] < number {
+        numbers[last] = number;
+        return Ok(());
+    }
+    Ok(())
 }
 
 /// Writes the numbers into `row` in place of what stood there.

@@ -4,7 +4,7 @@ ghost use Rattle.tdm_lines.specs.Lines.{Line};
 ghost use Rattle.tdm_lines.specs.SoFar.{ended_line};
 ghost use Rattle.tdm_problem.specs.Limits.{most_wires, most_nets, most_groups};
 ghost use Rattle.contest_input.specs.BoardText.{board_of_lines, largest_number};
-ghost use Rattle.contest_input.specs.Roles.{Holds, IsFine, IsInWires, IsInNets, IsInGroups, Reads, said_in, line_kind, in_wires, in_nets, in_groups};
+ghost use Rattle.contest_input.specs.Roles.{Holds, IsFine, IsInWires, IsInNets, IsInGroups, Reads, said_in, line_kind, room_of, in_wires, in_nets, in_groups};
 ghost use Rattle.tdm_lines.specs.Written.{plain_line};
 ghost use Rattle.contest_input.specs.Faults.{header_fault, wire_fault, net_fault, group_fault};
 ghost use Rattle.contest_input.specs.declared.roles.Role.TheVariants as role;
@@ -13,11 +13,11 @@ ghost use Rattle.contest_input.specs.declared.fault.BoardRefusal.{BoardRefusal};
 use crate::fault::BoardRefusal;
 use crate::header::{Sizes, header_fault, sizes_of};
 use crate::kind::BoardKind;
-use crate::lists::{group_listing, list_fault, narrow, net_listing};
+use crate::lists::{group_listing, keep, list_fault, narrow, net_listing};
 use crate::wires::{wire_fault, wire_of};
 use std::alloc::{AllocError, Global};
 use tdm_lines::{Grammar, TokenFault};
-use tdm_problem::{Problem, ProblemDraft};
+use tdm_problem::{MAX_LISTED_FPGAS, MAX_LISTED_NETS, Problem, ProblemDraft};
 
 /// What the next line is for.
 #[derive(Clone, Copy)]
@@ -32,7 +32,24 @@ pub(crate) enum Role {
     Refused(BoardRefusal),
 }
 
-/// What the lines of a board text have said so far, and the numbers of the line in progress.
+impl Role {
+    /// How many numbers are kept of a line, which is one more than it can have without a fault.
+    fn room(self) -> usize
+        ensures room { result ≡ room_of self }
+        ensures some { 0 < result }
+    {
+        match self {
+            Role::Header => 5,
+            Role::Wire => 3,
+            Role::Net => MAX_LISTED_FPGAS as usize + 1,
+            Role::Group => MAX_LISTED_NETS as usize + 1,
+            Role::End => 1,
+            Role::Refused(_) => 1,
+        }
+    }
+}
+
+/// What the lines of a board text have said so far, and what is kept of the numbers of the line in progress.
 #[derive(Drop)]
 pub(crate) struct BoardState {
     alloc: Global,
@@ -307,7 +324,8 @@ impl Grammar for BoardState {
     ghost holds = { Holds };
 
     fn number(&mut self, _place: u32, number: u64) -> Result<(), AllocError> {
-        self.numbers.push(number)?;
+        let room = self.role.room();
+        keep(&mut self.numbers, room, number)?;
         Ok(())
     }
 

@@ -106,9 +106,15 @@ fn the_numbers_of_all_nets_are_limited(rt: HostRuntime) -> Result<(), Fail> {
     let problem = read(&rt, rt.alloc(), &text)?;
     assert_eq!(rt; problem.nets(), 1);
     assert_eq!(rt; problem.net(0), [0].as_slice());
-    text.push(b'0')?;
+    text.extend_from_slice(b"0 0")?;
     let wanted = BoardRefusal {
         kind: BoardKind::TotalLimit,
+        line: 2,
+    };
+    assert!(rt; refusal(&rt, rt.alloc(), &text) == Some(wanted));
+    text.extend_from_slice(b" 1 0")?;
+    let wanted = BoardRefusal {
+        kind: BoardKind::UnknownFpga,
         line: 2,
     };
     assert!(rt; refusal(&rt, rt.alloc(), &text) == Some(wanted));
@@ -166,6 +172,8 @@ fn the_first_fault_is_told_of_a_text_that_comes_byte_by_byte(rt: HostRuntime) {
         (b"2 1 1 1\n0 1\n0 1\n", BoardKind::MissingLine, 4),
         (b"2 1 1 1\n0 1\n0 1\n0 x", BoardKind::BadNumber, 4),
         (b"0 0 0 0\n1", BoardKind::ExtraLine, 2),
+        (b"0 0 0 0 0 0 0 0\n", BoardKind::WrongCount, 1),
+        (b"2 1 0 0\n0 1 0 1 0\n", BoardKind::WrongCount, 2),
     ] {
         let wanted = BoardRefusal { kind, line };
         let told = match read_in_pieces(&rt, rt.alloc(), text, 1) {

@@ -1,20 +1,19 @@
-use Rattle.std.proofs.Common.{ℕ, List, ◌∷◌, [], Err, ap, sym, ◌∙◌, append_assoc}
+use Rattle.std.proofs.Common.{ℕ, ◌∷◌, [], Err, ap, sym, ◌∙◌, append_assoc}
 use Rattle.tdm_lines.specs.Lines.{Line}
 use Rattle.tdm_lines.specs.SoFar.{ended_line}
 use Rattle.contest_input.specs.BoardText.{board_of_lines}
-use Rattle.contest_input.specs.Roles.{said_in}
-use Rattle.contest_input.proofs.RoleSteps.{said-refused, clean-plain, taken-line, same-line, number-is}
+use Rattle.contest_input.proofs.RoleSteps.{said-refused, clean-plain, taken-line, number-is}
+use Rattle.contest_input.proofs.KeptNumbers.{judged}
 use Rattle.contest_input.proofs.roles.BoardStateGrammar.line.Goals as goal
 
 pub returns-in-Some-clause-reads : goal.returns-in-Some-clause-reads
 returns-in-Some-clause-reads c = λ done numbers reads some known end more.
     let g = c.args.self.now in
-    let items : List ℕ = g.numbers.items in
     let line : Line = ended_line c.args.line c.args.fault numbers in
     ap (board_of_lines end) (append_assoc done (line ∷ []) more) ∙ reads end (line ∷ more)
-    ∙ ap (λ (l : Line). said_in g.role g.sizes g.draft g.left g.listed end (l ∷ more)) (same-line c.args.line c.args.fault items numbers (λ none. (known none).1))
-    ∙ said-refused g.role g.sizes g.draft g.left g.listed end (ended_line c.args.line c.args.fault items) more c.in-Some.kind c.requires.fits (sym (c.line_fault.ensures c.args.line) ∙ c.in-Some.is)
-    ∙ ap (λ (n : ℕ). Err (record { kind = c.in-Some.kind; line = n })) (number-is c.args.line c.args.fault items)
+    ∙ said-refused g.role g.sizes g.draft g.left g.listed end line more c.in-Some.kind c.requires.fits
+    (sym (judged g.sizes g.listed c.args.line g.role c.args.fault g.numbers.items numbers (λ none. (known none).1)) ∙ sym (c.line_fault.ensures c.args.line) ∙ c.in-Some.is)
+    ∙ ap (λ (n : ℕ). Err (record { kind = c.in-Some.kind; line = n })) (number-is c.args.line c.args.fault numbers)
 
 pub take-requires-clause-clean : goal.take-requires-clause-clean
 take-requires-clause-clean c =
