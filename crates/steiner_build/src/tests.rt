@@ -130,6 +130,8 @@ fn star_is_joined_by_its_arms(rt: HostRuntime) {
     assert!(rt; wires.as_slice() == [0, 1, 2].as_slice());
     let free = build(rt.alloc(), &graph, &[1, 2, 3], &Alike(0)).expect(&rt, "tree");
     assert!(rt; free.as_slice() == [0, 1, 2].as_slice());
+    let alone = build(rt.alloc(), &graph, &[2], &Alike(1)).expect(&rt, "tree");
+    assert!(rt; alone.is_empty());
 }
 
 #[test]
