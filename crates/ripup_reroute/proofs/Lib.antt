@@ -4,3 +4,7 @@ pub mod Looking
 pub mod TurnLaws
 pub mod PassLaws
 pub mod FirstTrees
+pub mod Bounding
+pub mod Starts
+pub mod Reaching
+pub mod Scaling

@@ -54,10 +54,15 @@ module _ (board : Board) (graph : Graph) (same : graph ≡ graph_of board) (tree
         within = subst (λ (k : ℕ). IsWithinNet board trees numbers n k) long (within-net terminals total are_terminals within);
       }
 
+  -- where walks are at least as long as the tree, it is as short as can be said
+  pub kept-within : (terminals : List ℕ) (cap : ℕ) → terminals_of board n ≡ terminals → cap ≡ length_of (λ e. 2 * slice_index loads e + slice_index numbers n) (tree_of trees n) → IsWithinWalks (board_of graph) (λ e. 2 * slice_index loads e + slice_index numbers n) (slice_index terminals 0) terminals cap → IsWithinNet board trees numbers n (old_length trees numbers n)
+  kept-within terminals cap are_terminals exact within =
+      subst (λ (k : ℕ). IsWithinNet board trees numbers n k) (exact ∙ length-is (tree_of trees n)) (within-net terminals cap are_terminals within)
+
   -- where nothing is below the cap, the tree is as short as can be said
   pub none-better : (terminals : List ℕ) (cap : ℕ) → terminals_of board n ≡ terminals → IsConnectable board (terminals_of board n) → (cap < 2 ^ 64 - 2 ^ 51 → cap ≡ length_of (λ e. 2 * slice_index loads e + slice_index numbers n) (tree_of trees n)) → IsWithinWalks (board_of graph) (λ e. 2 * slice_index loads e + slice_index numbers n) (slice_index terminals 0) terminals cap → (2 ^ 64 - 2 ^ 51 ≤ cap → ¬ IsConnectable board terminals) → IsWithinNet board trees numbers n (old_length trees numbers n)
   none-better terminals cap are_terminals joins exact within apart =
       ⊎_elim
-      (λ (small : cap < 2 ^ 64 - 2 ^ 51). subst (λ (k : ℕ). IsWithinNet board trees numbers n k) (exact small ∙ length-is (tree_of trees n)) (within-net terminals cap are_terminals within))
+      (λ (small : cap < 2 ^ 64 - 2 ^ 51). kept-within terminals cap are_terminals (exact small) within)
       (λ (large : 2 ^ 64 - 2 ^ 51 ≤ cap). absurd (apart large (subst (IsConnectable board) are_terminals joins)))
       (cases_lt cap (2 ^ 64 - 2 ^ 51))

@@ -6,7 +6,7 @@ use Rattle.std.proofs.lemmas.List.Elements.{Contains-get_or, Contains-push_cases
 use Rattle.tdm_problem.specs.Board.{Board}
 use Rattle.tdm_problem.specs.Loads.{load_cost}
 use Rattle.tdm_problem.specs.Trees.{tree_of}
-use Rattle.ripup_reroute.specs.Turns.{IsShortFor, IsTurn, IsPass, ArePasses, AreFallingPasses}
+use Rattle.ripup_reroute.specs.Turns.{IsShortFor, IsTurn, IsPass, ArePasses, AreFallingPasses, ComesToRest}
 use Rattle.ripup_reroute.specs.Rerouting.{AreMinimalTrees, AreRerouted, IsSettledFor, IsSettled}
 use Rattle.ripup_reroute.proofs.TurnLaws.{IsTurn-stay}
 
@@ -40,7 +40,7 @@ module _ (board : Board) (numbers : List ℕ) where
       subst (λ (m : ℕ). ArePasses board numbers picks m trees new) more (falling.0, falling.1, falling-then picks k j falling.0 now new falling.3 rest)
 
   -- passes that fall are passes
-  pub passes-fall : (picks : List ℕ) (k : ℕ) (trees new : List (List ℕ)) → AreFallingPasses board numbers picks k trees new → ArePasses board numbers picks k trees new
+  passes-fall : (picks : List ℕ) (k : ℕ) (trees new : List (List ℕ)) → AreFallingPasses board numbers picks k trees new → ArePasses board numbers picks k trees new
   passes-fall picks zero trees new same = same
   passes-fall picks (suc k) trees new falling = (falling.0, falling.1, passes-fall picks k falling.0 new falling.3)
 
@@ -60,7 +60,7 @@ module _ (board : Board) (numbers : List ℕ) where
   ArePasses-rest picks (suc k) trees short = (trees, IsPass-rest picks trees short, ArePasses-rest picks k trees short)
 
   -- so many passes, the last of which change nothing
-  pub passes-settled : (picks : List ℕ) (k passes : ℕ) (trees now : List (List ℕ)) → k ≤ passes → AreFallingPasses board numbers picks k trees now → IsSettled board numbers picks now → ArePasses board numbers picks passes trees now
+  passes-settled : (picks : List ℕ) (k passes : ℕ) (trees now : List (List ℕ)) → k ≤ passes → AreFallingPasses board numbers picks k trees now → IsSettled board numbers picks now → ArePasses board numbers picks passes trees now
   passes-settled picks k passes trees now few falling settled =
       let rest : k + (passes - k) ≡ passes = omega (arith, few) in
       subst (λ (m : ℕ). ArePasses board numbers picks m trees now) rest
@@ -145,3 +145,20 @@ module _ (board : Board) (numbers : List ℕ) where
             (λ (last : n ≡ m). subst (λ (k : ℕ). IsSettledFor board numbers k next) last (turned.settled none'.1))
             (Contains-push_cases (take i picks) n m (subst (λ (ns : List ℕ). Contains ns m) (take_more picks i 0 there) picked)));
       }
+
+  -- ---- the end of a call
+
+  -- a pass that changes nothing, after passes that fall
+  pub rests-made : (picks : List ℕ) (done passes : ℕ) (trees now new : List (List ℕ)) → done < passes → AreFallingPasses board numbers picks done trees now → IsPass board numbers picks now new → new ≡ now → ComesToRest board numbers picks passes trees new
+  rests-made picks done passes trees now new fewer falling pass same = record {
+    done = done;
+    fewer = fewer;
+    falling = subst (AreFallingPasses board numbers picks done trees) (sym same) falling;
+    rest = subst (λ (ts : List (List ℕ)). IsPass board numbers picks ts new) (sym same) pass;
+  }
+
+  -- so many passes, whether or not one of them changes nothing
+  pub all-passes : (picks : List ℕ) (passes : ℕ) (trees new : List (List ℕ)) (settled : Bool) → (settled ≡ true → IsSettled board numbers picks new) → (settled ≡ true → ComesToRest board numbers picks passes trees new) → (settled ≡ false → AreFallingPasses board numbers picks passes trees new) → ArePasses board numbers picks passes trees new
+  all-passes picks passes trees new true settles rests falls =
+      passes-settled picks (rests refl).done passes trees new (omega (arith, (rests refl).fewer)) (rests refl).falling (settles refl)
+  all-passes picks passes trees new false settles rests falls = passes-fall picks passes trees new (falls refl)

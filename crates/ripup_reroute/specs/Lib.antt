@@ -1,3 +1,4 @@
 pub mod Turns
 pub mod Rerouting
 pub mod Working
+pub mod Bounds

@@ -1,11 +1,11 @@
 -- What rerouting promises.
-use Rattle.std.specs.Prelude.{◌≡◌, ℕ, ◌<◌, ◌≤◌, List, [], ◌∷◌, length, slice_set, Contains}
+use Rattle.std.specs.Prelude.{◌≡◌, ℕ, ◌<◌, ◌≤◌, Bool, true, false, List, [], ◌∷◌, length, slice_set, Contains}
 use Rattle.tdm_problem.specs.Board.{Board}
 use Rattle.tdm_problem.specs.Legal.{terminals_of}
 use Rattle.tdm_problem.specs.Loads.{load_cost, AreWiresOf}
 use Rattle.tdm_problem.specs.Trees.{tree_of, AreTreesFor}
 use Rattle.tdm_problem.specs.Walk.{Joins, IsMinimalTree}
-use Rattle.ripup_reroute.specs.Turns.{IsShortFor}
+use Rattle.ripup_reroute.specs.Turns.{IsShortFor, AreFallingPasses, ComesToRest}
 
 -- each net has a minimal tree of wires of the board
 pub record AreMinimalTrees (board : Board) (trees : List (List ℕ)) : Type 0 where
@@ -29,3 +29,11 @@ pub record IsSettledFor (board : Board) (numbers : List ℕ) (n : ℕ) (trees : 
 -- no picked net gains by a tree of its own
 abbrev pub IsSettled : Board → (numbers picks : List ℕ) → (trees : List (List ℕ)) → Type 0
 IsSettled board numbers picks trees = (n : ℕ) → Contains picks n → IsSettledFor board numbers n trees
+
+-- what so many passes come to: the cost, and whether one of them changes nothing; if not, each makes the cost smaller
+pub record IsOutcome (board : Board) (numbers picks : List ℕ) (passes : ℕ) (trees new : List (List ℕ)) (settled : Bool)
+    (cost : ℕ) : Type 0 where
+  pub cost_is : cost ≡ load_cost board new numbers
+  pub settles : settled ≡ true → IsSettled board numbers picks new
+  pub rests : settled ≡ true → ComesToRest board numbers picks passes trees new
+  pub falls : settled ≡ false → AreFallingPasses board numbers picks passes trees new

@@ -45,3 +45,11 @@ AreFallingPasses board numbers picks (suc k) trees new =
     (next : List (List ℕ)) × IsPass board numbers picks trees next
     × (load_cost board next numbers < load_cost board trees numbers)
     × AreFallingPasses board numbers picks k next new
+
+-- fewer than so many passes, each of which makes the cost smaller, lead from the trees to the new ones, over which a
+-- pass changes nothing
+pub record ComesToRest (board : Board) (numbers picks : List ℕ) (passes : ℕ) (trees new : List (List ℕ)) : Type 0 where
+  pub done : ℕ
+  pub fewer : done < passes
+  pub falling : AreFallingPasses board numbers picks done trees new
+  pub rest : IsPass board numbers picks new new

@@ -1,12 +1,13 @@
 -- What holds between the turns of a call.
-use Rattle.std.specs.Prelude.{◌≡◌, ℕ, ◌+◌, ◌^◌, ◌<◌, ◌≤◌, List, length, slice_index, All}
+use Rattle.std.specs.Prelude.{◌≡◌, ℕ, ◌+◌, ◌-◌, ◌^◌, ◌<◌, ◌≤◌, List, Option, Some, None, length, slice_index, All}
 use Rattle.std.specs.List.Sorted.{IsStrictlyIncreasing}
 use Rattle.tdm_problem.specs.Board.{Board}
 use Rattle.tdm_problem.specs.Distance.{length_of}
 use Rattle.tdm_problem.specs.Legal.{source_of, terminals_of}
 use Rattle.tdm_problem.specs.Loads.{load_by, load_of, marginal_length}
 use Rattle.tdm_problem.specs.Trees.{tree_of}
-use Rattle.tdm_problem.specs.Walk.{IsMinimalTree}
+use Rattle.tdm_problem.specs.Walk.{IsMinimalTree, IsConnectable}
+use Rattle.board_graph.specs.Graph.{Graph, graph_of, board_of}
 use Rattle.steiner_build.specs.Building.{IsWithinWalks}
 
 -- the new loads have the number more than the old ones on the wires, and no others
@@ -40,3 +41,19 @@ pub record IsBetter (board : Board) (trees : List (List ℕ)) (numbers : List �
   pub there : All (λ e. e < length board.wires) wires
   pub shorter : length_of (marginal_length trees numbers n) wires < old_length trees numbers n
   pub within : IsWithinNet board trees numbers n (length_of (marginal_length trees numbers n) wires)
+
+-- the wires are a minimal tree of the terminals on a graph, so long
+pub record IsGrown (graph : Graph) (wire_length : ℕ → ℕ) (terminals wires : List ℕ) (total : ℕ) : Type 0 where
+  pub minimal : (board : Board) → graph ≡ graph_of board → IsMinimalTree board wires terminals
+  pub rising : IsStrictlyIncreasing wires
+  pub there : All (λ e. e < length graph.wires) wires
+  pub long : total ≡ length_of wire_length wires
+
+-- a tree below the cap has grown, or there is none; walks from the start to the terminals are at least as long as the
+-- tree, or else as the cap
+abbrev pub IsGrowth : Graph → (wire_length : ℕ → ℕ) → (start : ℕ) → (terminals : List ℕ) → (cap : ℕ)
+    → (wires : List ℕ) → Option ℕ → Type 0
+IsGrowth graph wire_length start terminals cap wires (Some total) = IsGrown graph wire_length terminals wires total
+    × (total < cap) × IsWithinWalks (board_of graph) wire_length start terminals total
+IsGrowth graph wire_length start terminals cap wires None = IsWithinWalks (board_of graph) wire_length start terminals cap
+    × (2 ^ 64 - 2 ^ 51 ≤ cap → (board : Board) → graph ≡ graph_of board → ¬ IsConnectable board terminals)

@@ -2,12 +2,19 @@
 //! where that makes the cost of the loads smaller.
 #![tactic(auto)]
 
+mod effort;
+mod growing;
 mod loads;
 mod marginals;
 mod passes;
+mod table;
 #[cfg(test)]
 mod tests;
+mod tools;
 mod turn;
+mod walks;
+mod ways;
 
+pub use effort::Effort;
 pub use loads::loads_of;
-pub use passes::{Rerouted, reroute};
+pub use passes::{Rerouted, reroute, reroute_with};

@@ -29,6 +29,26 @@ pub fn loads_of(
     Ok(loads)
 }
 
+/// The mean number of the nets that have one above 0 and a wire, rounded down.
+pub(crate) fn mean_number(trees: &Trees, numbers: &[u64]) -> u64
+    requires count { length numbers.now ≡ length trees.now }
+    requires small { All (λ s. s ≤ 2 ^ 30) numbers.now }
+{
+    let mut sum = 0;
+    let mut nets = 0;
+    for n in 0..trees.nets() {
+        let number = numbers[n as usize];
+        if number > 0 && !trees.wires_of(n).is_empty() {
+            sum += number;
+            nets += 1;
+        }
+    }
+    if nets == 0 {
+        return 0;
+    }
+    sum / nets
+}
+
 /// Adds a net's number to the loads of its wires, which are all different.
 pub(crate) fn add_number(loads: &mut Vec<u64>, wires: &[u32], number: u64)
     requires there { All (λ e. e < length loads.old.items) wires.now }

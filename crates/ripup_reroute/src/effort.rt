@@ -1,0 +1,11 @@
+//! How much a call of rerouting looks for.
+
+/// How much is looked for. It decides how good the trees become and how long that takes, and nothing else.
+#[derive(Clone, Copy, Debug, PartialEq, Eq)]
+pub struct Effort {
+    /// So many passes look for a shorter tree of every net. In later ones a net with three FPGAs or more keeps its tree
+    /// where that is no longer than the least distances from its first FPGA to the others together.
+    pub full_passes: u32,
+    /// Whether the trees of heavy nets, those with at least the mean number, are grown from several of their FPGAs.
+    pub several_starts: bool,
+}
