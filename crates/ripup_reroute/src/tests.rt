@@ -6,7 +6,7 @@ ghost use Rattle.tdm_problem.specs.Limits.{most_nets};
 ghost use Rattle.tdm_problem.specs.Walk.{IsMinimalTree};
 ghost use Rattle.ripup_reroute.specs.Rerouting.{AreMinimalTrees};
 
-use crate::{Rerouted, reroute};
+use crate::{Effort, Rerouted, reroute, reroute_with};
 use board_graph::BoardGraph;
 use shortest_forest::{Lengths, MOST_CAP, NoBound};
 use std::alloc::{AllocError, Global};
@@ -163,5 +163,49 @@ fn picks_may_repeat_and_numbers_may_be_extreme(rt: HostRuntime) -> Result<(), Fa
     assert!(rt; light.settled);
     let heavy = reroute_doubled(rt.alloc(), &[1_073_741_824; 4], &[0, 1, 2, 3], 4)?;
     assert_eq!(rt; heavy.phi, 9_223_372_036_854_775_808);
+    Ok(())
+}
+
+/// Three FPGAs in a ring, and 80 nets on all of them, which all begin on the first two wires: so many that there is a
+/// table of lower bounds. The first three nets are rerouted.
+fn reroute_crowd(alloc: Global, effort: Effort) -> Result<Rerouted, AllocError> {
+    let mut draft = ProblemDraft::new(alloc, 3);
+    draft.push_wire(Wire { a: 0, b: 1 })?;
+    draft.push_wire(Wire { a: 1, b: 2 })?;
+    draft.push_wire(Wire { a: 0, b: 2 })?;
+    for n in 0..80u32 {
+        draft.push_net(&[0, 1, 2])?;
+    }
+    let problem = draft.into_problem();
+    let graph = BoardGraph::of(alloc, &problem)?;
+    let mut trees = first_trees(alloc, &problem, &graph)?;
+    reroute_with(
+        alloc,
+        &problem,
+        &graph,
+        &mut trees,
+        &[1; 80],
+        &[0, 1, 2],
+        4,
+        effort,
+    )
+}
+
+#[test]
+fn a_crowd_spreads_at_every_effort(rt: HostRuntime) -> Result<(), Fail> {
+    let lazy = Effort {
+        full_passes: 0,
+        several_starts: false,
+    };
+    let full = Effort {
+        full_passes: 4,
+        several_starts: true,
+    };
+    let few = reroute_crowd(rt.alloc(), lazy)?;
+    assert!(rt; few.settled);
+    assert_eq!(rt; few.phi, 12_334);
+    let most = reroute_crowd(rt.alloc(), full)?;
+    assert!(rt; most.settled);
+    assert_eq!(rt; most.phi, 12_334);
     Ok(())
 }
