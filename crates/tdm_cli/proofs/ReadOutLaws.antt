@@ -1,52 +1,103 @@
--- When an input was read to its end.
-use Rattle.std.proofs.Common.{◌≡◌, ℕ, ◌+◌, ◌^◌, ◌<◌, ◌≤◌, [], refl, sym, ap, ◌∙◌, ⊎_elim, take, drop, length, arith}
-use Rattle.std.specs.Prelude.{Option, Some, None, option_map, Ok}
+-- What is read to its end where a run ends well.
+use Rattle.std.proofs.Common.{◌≡◌, ◌⊎◌, ℕ, ◌<◌, ◌≤◌, ◌+◌, ◌^◌, List, [], ◌∷◌, length, refl, sym, ap, subst, ◌∙◌, inl, inr, arith, drop}
+use Rattle.std.specs.Prelude.{Option, Some, None, Result, Ok, Err, option_map, unwrap_or}
+use Rattle.std.proofs.lemmas.List.{drop_all}
 use Rattle.std.specs.Option.{ForSome}
-use Rattle.std.proofs.lemmas.List.{drop_all, length-take}
-use Rattle.std.proofs.lemmas.Bool.{lt-ltb, cases_lt}
+use Rattle.std.specs.FinMap.{get}
 use Rattle.tdm_desk.specs.declared.slots.InSlot.{InSlot}
-use Rattle.tdm_desk.specs.Files.{Bytes, Name}
-use Rattle.tdm_desk.specs.Seen.{Seen, opened, taken, input_is_open, rest_of}
-use Rattle.tdm_desk.proofs.SeenLaws.{input_is_open-opened, input_is_open-taken, rest-taken}
+use Rattle.tdm_desk.specs.declared.slots.InSlot.TheVariants.{In0, In1}
+use Rattle.tdm_desk.specs.Files.{Bytes, Files, Name, bytes_under}
+use Rattle.tdm_desk.specs.Seen.{Seen, files_of, rest_of}
+use Rattle.tdm_desk.specs.Counts.{Counts}
 use Rattle.tdm_problem.specs.Board.{Board}
-use Rattle.tdm_problem.specs.Routing.{Routing}
-use Rattle.contest_input.specs.BoardText.{board_of}
-use Rattle.solution_text.specs.Reading.{solution_of}
-use Rattle.bound_cert.specs.Certificate.{Cert}
-use Rattle.bound_cert.specs.CertReading.{cert_of}
-use Rattle.tdm_cli.specs.Settled.{IsReadOut}
+use Rattle.command_run.specs.Slots.{place, WasRead}
+use Rattle.command_run.specs.Outcome.{Outcome}
+use Rattle.command_run.specs.Inputs.{Input, Content, no_file, unreadable, text, Holds, HoldEach, ByNone}
+use Rattle.command_run.specs.Ends.{RunEnds}
+use Rattle.command_run.proofs.StatusLaws.{by-input}
+use Rattle.tdm_cli.specs.declared.status.Status.{Status}
+use Rattle.tdm_cli.specs.declared.status.Status.TheVariants as status
+use Rattle.tdm_cli.specs.Kinds.{faults, boards, solutions, certificates, board_input, second_input}
+use Rattle.tdm_cli.specs.Request.{Request, route, eval, check, nothing, inputs_of, outputs_of}
+use Rattle.tdm_cli.specs.Outcomes.{Routes, Judges, Checks, JudgesNext, ChecksNext, CallsFor, refused_words}
+use Rattle.tdm_cli.specs.Ended.{IsReadOut, AreReadOut}
+use Rattle.tdm_cli.proofs.TextLaws.{within-limit}
+use Rattle.tdm_cli.proofs.FairLaws.{IsDecided}
+use Rattle.tdm_cli.proofs.EndedLaws.{ended}
 
-some-same : {A : Type 0} (x y : A) → ◌≡◌ {A = Option A} (Some x) (Some y) → x ≡ y
-some-same x y e = cc
-
--- bytes that are no more than the limit are all that was left, where one more was asked for
-pub all-taken : (slot : InSlot) (limit : ℕ) (name : Name) (bytes : Bytes) (before between after : Seen) → between ≡ opened slot name before → after ≡ taken slot (limit + 1) between → ForSome (rest_of slot between) (λ rest. bytes ≡ take (limit + 1) rest) → length bytes ≤ limit → IsReadOut slot after
-all-taken slot limit name bytes before between after first is read short = record {
-  is_open = ap (input_is_open slot) is ∙ input_is_open-taken slot slot (limit + 1) between ∙ ap (input_is_open slot) first ∙ input_is_open-opened slot name before;
-  empty = λ left told. by (rest_of slot between) left refl (sym told ∙ ap (rest_of slot) is ∙ rest-taken slot (limit + 1) between);
-}
+-- a file that is within the limit was read to its end
+read-out : (slot : InSlot) (limit : ℕ) (name : Name) (bytes : Bytes) (before after : Seen) → WasRead slot limit name before after → ForSome (files_of before) (λ files. get files name ≡ Some bytes) → length bytes ≤ limit → IsReadOut after slot
+unfolding bytes_under
+read-out slot limit name bytes before after read held short = record { is_open = read.is_open; empty = by (files_of before) refl }
   where
-    by : (rest : Option Bytes) (left : Bytes) → rest_of slot between ≡ rest → Some left ≡ option_map (drop (limit + 1)) (rest_of slot between) → left ≡ []
-    by None left e same = let f : option_map (drop (limit + 1)) (rest_of slot between) ≡ None = ap (option_map (drop (limit + 1))) e in cc
-    by (Some rest) left e same =
-        let whole : length rest ≤ limit = omega (arith, ap length (read rest e), length-take (limit + 1) rest, short) in
-        some-same left (drop (limit + 1) rest) (same ∙ ap (option_map (drop (limit + 1))) e) ∙ drop_all (limit + 1) rest (omega (arith, whole))
+    by : (files : Option Files) → files_of before ≡ files → ForSome (rest_of slot after) (λ rest. rest ≡ [])
+    by None told = λ rest is. absurd (
+      let e : ◌≡◌ {A = Option Bytes} None (Some rest) = sym (read.rest ∙ ap (option_map (λ files. drop (limit + 1) (bytes_under name files))) told) ∙ is in cc
+    )
+    by (Some files) told = λ rest is.
+        let e : ◌≡◌ {A = Option Bytes} (Some (drop (limit + 1) (bytes_under name files))) (Some rest) = sym (read.rest ∙ ap (option_map (λ files. drop (limit + 1) (bytes_under name files))) told) ∙ is in
+        let same : drop (limit + 1) (bytes_under name files) ≡ rest = cc (e) in
+        sym same ∙ ap (λ found. drop (limit + 1) (unwrap_or found [])) (held files told) ∙ drop_all (limit + 1) bytes (omega (arith, short))
 
--- a text that says something is not too long
-pub board-within : (text : Bytes) (board : Board) → board_of text ≡ Ok board → length text ≤ 2 ^ 28
-board-within text board says = ⊎_elim (λ above. absurd (too-long above)) (λ short. omega (arith, short)) (cases_lt (2 ^ 28) (length text))
-  where
-    too-long : 2 ^ 28 < length text → ⊥
-    too-long above = let is = rw (lt-ltb (2 ^ 28) (length text) above) at says in cc
+-- each content is a text within the limit of its input
+abbrev AreWithin : List Input → List Content → Type 0
+AreWithin [] [] = Unit {0}
+AreWithin (input ∷ inputs) (text bytes ∷ contents) = (length bytes ≤ input.limit) × AreWithin inputs contents
+AreWithin _ _ = ⊥
 
-pub solution-within : (board : Board) (text : Bytes) (routing : Routing) → solution_of board text ≡ Ok routing → length text ≤ 2 ^ 30
-solution-within board text routing says = ⊎_elim (λ above. absurd (too-long above)) (λ short. omega (arith, short)) (cases_lt (2 ^ 30) (length text))
-  where
-    too-long : 2 ^ 30 < length text → ⊥
-    too-long above = let is = rw (lt-ltb (2 ^ 30) (length text) above) at says in cc
+-- each input is at most at this place
+abbrev AreNear : ℕ → List Input → Type 0
+AreNear last [] = Unit {0}
+AreNear last (input ∷ inputs) = (place input.slot ≤ last) × AreNear last inputs
 
-pub cert-within : (board : Board) (text : Bytes) (cert : Cert) → cert_of board text ≡ Ok cert → length text ≤ 2 ^ 30
-cert-within board text cert says = ⊎_elim (λ above. absurd (too-long above)) (λ short. omega (arith, short)) (cases_lt (2 ^ 30) (length text))
+all-read : (opened : ℕ) (failed : Option InSlot) (before after : Seen) (inputs : List Input) (contents : List Content) → HoldEach opened failed inputs contents before after → AreWithin inputs contents → AreNear opened inputs → AreReadOut after inputs
+all-read opened failed before after [] contents held within near = tt
+all-read opened failed before after (input ∷ inputs) [] held within near = absurd held
+all-read opened failed before after (input ∷ inputs) (no_file ∷ contents) held within near = absurd within
+all-read opened failed before after (input ∷ inputs) (unreadable ∷ contents) held within near = absurd within
+all-read opened failed before after (input ∷ inputs) (text bytes ∷ contents) held within near =
+    (read-out input.slot input.limit input.name bytes before after (held.0.1 near.0) held.0.0 within.0, all-read opened failed before after inputs contents held.1 within.1 near.1)
+
+-- at Ok the text of each of these inputs is within the limit
+abbrev IsShort : List Input → List Content → Outcome Status → Type 0
+IsShort inputs contents outcome = outcome.status ≡ status.Ok → AreWithin inputs contents
+
+none-short : (Is : Outcome Status → Type 0) (contents : List Content) (outcome : Outcome Status) → ByNone Is contents outcome → IsShort [] contents outcome
+none-short Is [] outcome is = λ ok. tt
+none-short Is (content ∷ contents) outcome is = absurd is
+
+short : (request : Request) (contents : List Content) (outcome : Outcome Status) → CallsFor request contents outcome → IsShort (inputs_of request) contents outcome
+short (route board solution cert rounds) = by-input faults In0 boards (λ problem. ByNone (Routes problem rounds)) (IsShort (board_input board ∷ []))
+    (λ rest e. cc) (λ rest e. cc) (λ bytes refusal rest says e. cc)
+    (λ bytes problem rest outcome says then e. (within-limit (2 ^ 28) (length bytes) _ _ problem says, none-short (Routes problem rounds) rest outcome then e))
+short (eval board solution) = by-input faults In0 boards JudgesNext (IsShort (board_input board ∷ second_input solution ∷ []))
+    (λ rest e. cc) (λ rest e. cc) (λ bytes refusal rest says e. cc)
+    (λ bytes problem rest outcome says then e. (within-limit (2 ^ 28) (length bytes) _ _ problem says, next problem rest outcome then e))
   where
-    too-long : 2 ^ 30 < length text → ⊥
-    too-long above = let is = rw (lt-ltb (2 ^ 30) (length text) above) at says in cc
+    next : (problem : Board) (contents : List Content) (outcome : Outcome Status) → JudgesNext problem contents outcome → IsShort (second_input solution ∷ []) contents outcome
+    next problem = by-input faults In1 (solutions problem) (λ routing. ByNone (Judges problem routing)) (IsShort (second_input solution ∷ []))
+        (λ rest e. cc) (λ rest e. cc) (λ bytes refusal rest says e. cc)
+        (λ bytes routing rest outcome says then e. (within-limit (2 ^ 30) (length bytes) _ _ routing says, none-short (Judges problem routing) rest outcome then e))
+short (check board cert) = by-input faults In0 boards ChecksNext (IsShort (board_input board ∷ second_input cert ∷ []))
+    (λ rest e. cc) (λ rest e. cc) (λ bytes refusal rest says e. cc)
+    (λ bytes problem rest outcome says then e. (within-limit (2 ^ 28) (length bytes) _ _ problem says, next problem rest outcome then e))
+  where
+    next : (problem : Board) (contents : List Content) (outcome : Outcome Status) → ChecksNext problem contents outcome → IsShort (second_input cert ∷ []) contents outcome
+    next problem = by-input faults In1 (certificates problem) (λ proof. ByNone (Checks problem proof)) (IsShort (second_input cert ∷ []))
+        (λ rest e. cc) (λ rest e. cc) (λ bytes refusal rest says e. cc)
+        (λ bytes proof rest outcome says then e. (within-limit (2 ^ 30) (length bytes) _ _ proof says, none-short (Checks problem proof) rest outcome then e))
+short nothing = none-short (λ outcome. outcome ≡ refused_words)
+
+near : (request : Request) (opened : ℕ) → length (inputs_of request) ≤ opened → AreNear opened (inputs_of request)
+near (route board solution cert rounds) opened all = (omega (arith, all), tt)
+near (eval board solution) opened all = (omega (arith, all), (omega (arith, all), tt))
+near (check board cert) opened all = (omega (arith, all), (omega (arith, all), tt))
+near nothing opened all = tt
+
+pub run-read : {D : Type 0} (counts : D → Counts) (steady : D → Type 0) (seen : D → Seen) (request : Request) (before after : D) (answer : Status) → RunEnds counts steady seen faults (inputs_of request) (outputs_of request) (CallsFor request) before after answer → answer ≡ status.Ok → AreReadOut (seen after) (inputs_of request)
+run-read counts steady seen request before after answer ends ok = ended counts steady seen request before after answer ends (AreReadOut (seen after) (inputs_of request))
+    (λ outcome came put kept decided. all-read outcome.opened outcome.unread (seen before) (seen after) (inputs_of request) came.contents came.held
+        (short request came.contents outcome came.called (sym put.stands ∙ ok)) (near request outcome.opened (decided.reached (sym put.stands ∙ ok))))
+    (λ slot near came put kept. absurd (let e : status.Ok ≡ status.ReadFault = sym ok ∙ put.stands in cc))
+    (λ is failed. absurd (let e : status.Ok ≡ status.WriteFault = sym ok ∙ is in cc))
+    (λ is. absurd (let e : status.Ok ≡ status.OutOfMemory = sym ok ∙ is in cc))

@@ -1,65 +1,49 @@
--- What the program promises of a run, in terms of the files when it began.
-use Rattle.std.specs.Prelude.{◌≡◌, ℕ, ◌<◌, ◌≤◌, ◌++◌, length, sum_by, Some, None, Ok, Err, option_map}
+-- What the outcome of a run is worth, in terms of the files when it began.
+use Rattle.std.specs.Prelude.{◌≡◌, ℕ, ◌<◌, ◌≤◌, ◌++◌, length, sum_by, Some, Ok, option_map}
 use Rattle.std.specs.FinMap.{get}
-use Rattle.tdm_desk.specs.Files.{Bytes, Name, Files}
+use Rattle.tdm_desk.specs.Files.{Bytes, Name, Files, with_file}
 use Rattle.tdm_desk.specs.Seen.{Seen, files_of, said_of}
 use Rattle.tdm_problem.specs.Board.{Board}
 use Rattle.tdm_problem.specs.Routing.{Routing, uses_of, wires_of}
-use Rattle.tdm_problem.specs.Walk.{IsConnectable, IsMinimalTree}
-use Rattle.tdm_problem.specs.Legal.{IsLegal, terminals_of, AllConnectable}
+use Rattle.tdm_problem.specs.Walk.{IsMinimalTree}
+use Rattle.tdm_problem.specs.Legal.{IsLegal, terminals_of}
 use Rattle.tdm_problem.specs.Value.{value_of}
-use Rattle.contest_input.specs.declared.fault.BoardRefusal.{BoardRefusal}
 use Rattle.contest_input.specs.BoardText.{board_of}
 use Rattle.solution_text.specs.Text.{solution_text}
 use Rattle.solution_text.specs.Reading.{solution_of}
+use Rattle.solution_eval.specs.declared.judgement.Verdict.{Verdict}
+use Rattle.solution_eval.specs.declared.judgement.Verdict.TheVariants.{Legal}
+use Rattle.solution_eval.specs.Verdict.{IsVerdict, SaysLegal}
 use Rattle.bound_cert.specs.Certificate.{Cert}
 use Rattle.bound_cert.specs.CertText.{cert_text}
 use Rattle.bound_cert.specs.CertReading.{cert_of}
 use Rattle.bound_cert.specs.Valid.{IsValid}
 use Rattle.bound_cert.specs.Bound.{bound_of}
 use Rattle.bound_cert.specs.Floors.{IsHopFloor, IsShareFloor}
+use Rattle.cert_checker.specs.declared.steep.Steep.{Steep}
+use Rattle.cert_checker.specs.Steep.{IsFirstSteep}
 use Rattle.cert_checker.specs.Answer.{IsLowerBound}
 use Rattle.tdm_cli.specs.declared.status.Status.{Status}
 use Rattle.tdm_cli.specs.declared.status.Status.TheVariants as status
-use Rattle.tdm_cli.specs.Settled.{IsSettled}
-use Rattle.tdm_cli.specs.TwoFiles.{with_two_files}
-use Rattle.tdm_cli.specs.Baseline.{most_uses, IsOverUseLimit, IsWithinUseLimit}
+use Rattle.tdm_cli.specs.Baseline.{most_uses}
 use Rattle.tdm_cli.specs.Routing.{IsBaselineValue}
 use Rattle.tdm_cli.specs.Improved.{MeetsBaselineRounds}
-use Rattle.tdm_cli.specs.Reports.{route_report}
-
--- the FPGAs of some net are not joined by the wires of the board
-abbrev pub SomeUnconnectable : Board → Type 0
-SomeUnconnectable board = (n : ℕ) × (n < length board.nets) × (IsConnectable board (terminals_of board n) → ⊥)
+use Rattle.tdm_cli.specs.Reports.{route_report, bound_report, steep_report, verdict_report}
+use Rattle.tdm_cli.specs.Request.{Request, route, eval, check, nothing}
 
 -- the file of this name is there and is the text of this board
 abbrev pub Describes : Files → Name → Board → Type 0
 Describes files name board = (bytes : Bytes) × (get files name ≡ Some bytes) × (board_of bytes ≡ Ok board)
 
--- the status that the files ask for where the file of this name is no board
-abbrev pub BoardCallsFor : Files → Name → Status → Type 0
-BoardCallsFor files name status.NoInput = get files name ≡ None
-BoardCallsFor files name status.BoardRefused = (bytes : Bytes) × (refusal : BoardRefusal)
-    × (get files name ≡ Some bytes) × (board_of bytes ≡ Err refusal)
-BoardCallsFor files name _ = ⊥
+-- the file of this name is there and is the text of this solution of the board
+abbrev pub Proposes : Files → Name → Board → Routing → Type 0
+Proposes files name board routing = (bytes : Bytes) × (get files name ≡ Some bytes)
+    × (solution_of board bytes ≡ Ok routing)
 
--- the status that the files ask for of `route`, where nothing outside fails and memory is there
-abbrev pub CallsFor : Files → Name → Status → Type 0
-CallsFor files name status.NoInput = BoardCallsFor files name status.NoInput
-CallsFor files name status.BoardRefused = BoardCallsFor files name status.BoardRefused
-CallsFor files name status.Unconnectable = (board : Board) × Describes files name board
-    × SomeUnconnectable board
-CallsFor files name status.UseLimit = (board : Board) × Describes files name board × IsOverUseLimit board
-CallsFor files name status.Ok = (board : Board) × Describes files name board × AllConnectable board
-    × IsWithinUseLimit board
-CallsFor files name _ = ⊥
-
--- the answer shows a fault of the outside, or want of memory
-abbrev pub IsOutsideFault : Status → Type 0
-IsOutsideFault status.ReadFault = Unit {0}
-IsOutsideFault status.WriteFault = Unit {0}
-IsOutsideFault status.OutOfMemory = Unit {0}
-IsOutsideFault _ = ⊥
+-- the file of this name is there and is the text of this certificate for the board
+abbrev pub Certifies : Files → Name → Board → Cert → Type 0
+Certifies files name board cert = (bytes : Bytes) × (get files name ≡ Some bytes)
+    × (cert_of board bytes ≡ Ok cert)
 
 -- a solution of the board in one file, found by so many rounds, is written to another and a certificate to a third, both
 -- read back, and their value and bound are said
@@ -80,9 +64,60 @@ pub record IsRouted (files : Files) (name solution cert : Name) (count : ℕ) (b
   pub rounds : 0 < value_of board routing
       → MeetsBaselineRounds board count (value_of board routing) (bound_of board proof)
   pub written : files_of after
-      ≡ Some (with_two_files solution (solution_text routing) cert (cert_text proof) files)
+      ≡ Some (with_file cert (cert_text proof) (with_file solution (solution_text routing) files))
   pub reads_back : solution_of board (solution_text routing) ≡ Ok routing
   pub cert_reads_back : cert_of board (cert_text proof) ≡ Ok proof
   pub told : said_of after
       ≡ option_map (λ s. s ++ route_report (value_of board routing) (bound_of board proof)) (said_of before)
-  pub settled : IsSettled after
+
+-- the verdict on the solution in one file of the board in the other is right and is said, and no file is changed
+pub record IsJudged (files : Files) (name solution : Name) (before after : Seen) (verdict : Verdict) : Type 0 where
+  pub board : Board
+  pub described : Describes files name board
+  pub routing : Routing
+  pub proposed : Proposes files solution board routing
+  pub right : IsVerdict board routing verdict
+  pub kept : files_of after ≡ Some files
+  pub told : said_of after ≡ option_map (λ s. s ++ verdict_report verdict) (said_of before)
+
+-- the certificate in one file is valid for the board in the other and its bound is said, no legal solution's value is
+-- below the bound, and no file is changed
+pub record IsBounded (files : Files) (name cert : Name) (before after : Seen) : Type 0 where
+  pub board : Board
+  pub described : Describes files name board
+  pub certificate : Cert
+  pub certified : Certifies files cert board certificate
+  pub valid : IsValid board certificate
+  pub lower : IsLowerBound board (bound_of board certificate)
+  pub kept : files_of after ≡ Some files
+  pub told : said_of after ≡ option_map (λ s. s ++ bound_report (bound_of board certificate)) (said_of before)
+
+-- the certificate in one file is not valid for the board in the other and its first steep pair is said, and no file is
+-- changed
+pub record IsRejected (files : Files) (name cert : Name) (before after : Seen) : Type 0 where
+  pub board : Board
+  pub described : Describes files name board
+  pub certificate : Cert
+  pub certified : Certifies files cert board certificate
+  pub pair : Steep
+  pub first : IsFirstSteep board certificate pair
+  pub kept : files_of after ≡ Some files
+  pub told : said_of after ≡ option_map (λ s. s ++ steep_report pair) (said_of before)
+
+-- what the end of a run with this status is worth
+abbrev pub IsWorth : Request → Files → Seen → Seen → Status → Type 0
+IsWorth (route board solution cert rounds) files before after status.Ok =
+    IsRouted files board solution cert rounds before after
+IsWorth (eval board solution) files before after status.Ok =
+    (value : ℕ) × IsJudged files board solution before after (Legal value)
+IsWorth (eval board solution) files before after status.Illegal = (verdict : Verdict)
+    × (SaysLegal verdict → ⊥) × IsJudged files board solution before after verdict
+IsWorth (check board cert) files before after status.Ok = IsBounded files board cert before after
+IsWorth (check board cert) files before after status.CertRejected = IsRejected files board cert before after
+IsWorth request files before after answer = Unit {0}
+
+-- no legal solution of a board has a value below the bound of a certificate that is accepted for it, whoever made it
+abbrev pub BoundsHold : Type 0
+BoundsHold = (board_text cert_text : Bytes) (board : Board) (cert : Cert)
+    → board_of board_text ≡ Ok board → cert_of board cert_text ≡ Ok cert → IsValid board cert
+    → IsLowerBound board (bound_of board cert)

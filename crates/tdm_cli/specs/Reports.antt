@@ -1,20 +1,12 @@
 -- The texts that the program says. Each line ends with a line feed.
 use Rattle.std.specs.Prelude.{ℕ, List, [], ◌∷◌, ◌++◌, codes}
 use Rattle.std.specs.List.{flat_map}
-use Rattle.tdm_lines.specs.Digits.{digits}
 use Rattle.solution_eval.specs.declared.judgement.Verdict.{Verdict}
 use Rattle.solution_eval.specs.declared.judgement.Verdict.TheVariants.{Legal, NotJoined, BadRatio, Overfull}
 use Rattle.cert_checker.specs.declared.steep.Steep.{Steep}
 use Rattle.cert_checker.specs.declared.answer.CheckAnswer.{CheckAnswer}
 use Rattle.cert_checker.specs.declared.answer.CheckAnswer.TheVariants.{Accepted, Rejected}
-
--- words, and a number behind them
-abbrev pub counted : List ℕ → ℕ → List ℕ
-counted words number = words ++ digits number
-
--- a line that ends with a number
-abbrev pub numbered : List ℕ → ℕ → List ℕ
-numbered words number = words ++ (digits number ++ 10 ∷ [])
+use Rattle.command_run.specs.Reports.{counted, numbered, refused_report}
 
 -- what a solution is worth
 abbrev pub value_report : ℕ → List ℕ
@@ -31,18 +23,6 @@ route_report value bound = value_report value ++ bound_report bound
 -- the words are no command
 abbrev pub usage_report : List ℕ
 usage_report = codes "words refused" ++ 10 ∷ []
-
--- reading this input failed, counted from 1
-abbrev pub read_fault_report : ℕ → List ℕ
-read_fault_report place = numbered (codes "read fault input ") place
-
--- this input has no file of its name, counted from 1
-abbrev pub no_input_report : ℕ → List ℕ
-no_input_report place = numbered (codes "no input ") place
-
--- a text is refused: the name of the kind, and the line
-abbrev pub refused_report : List ℕ → List ℕ → ℕ → List ℕ
-refused_report words kind line = numbered (words ++ (kind ++ codes " line ")) line
 
 -- the board text is refused
 abbrev pub board_refused_report : List ℕ → ℕ → List ℕ

@@ -1,8 +1,9 @@
 //! What is said of a certificate that was checked.
 ghost use Rattle.std.specs.Prelude.{◌≡◌, IfOk};
-ghost use Rattle.tdm_cli.specs.Reports.{counted, numbered, bound_report, steep_report, answer_report};
+ghost use Rattle.tdm_cli.specs.Reports.{steep_report, answer_report};
 
 use crate::report;
+use command_run::{push_line, push_number};
 use cert_checker::{CheckAnswer, Steep};
 use std::alloc::{AllocError, Global};
 
@@ -11,8 +12,8 @@ fn steep(alloc: Global, pair: Steep) -> Result<Vec<u8>, AllocError>
     ensures { IfOk result (λ text. text.items ≡ steep_report pair) }
 {
     let mut text = Vec::new(alloc);
-    report::push_number(&mut text, b"steep potential ", u128::from(pair.potential))?;
-    report::push_line(&mut text, b" wire ", u128::from(pair.wire))?;
+    push_number(&mut text, b"steep potential ", u128::from(pair.potential))?;
+    push_line(&mut text, b" wire ", u128::from(pair.wire))?;
     Ok(text)
 }
 

@@ -2,9 +2,10 @@
 ghost use Rattle.std.specs.Prelude.{◌≡◌, [], ◌∷◌, codes};
 ghost use Rattle.cert_checker.specs.declared.answer.CheckAnswer.TheVariants.{Accepted, Rejected};
 ghost use Rattle.solution_eval.specs.declared.judgement.Verdict.TheVariants.{BadRatio, Legal, NotJoined, Overfull};
+ghost use Rattle.command_run.specs.Reports.{no_input_report, read_fault_report};
 ghost use Rattle.tdm_cli.specs.Code.{code_of};
 ghost use Rattle.tdm_cli.specs.declared.status.Status.TheVariants.{BoardRefused, CertRefused, CertRejected, Illegal, NoInput, Ok, OutOfMemory, ReadFault, SolutionRefused, Unconnectable, Usage, UseLimit, WriteFault};
-ghost use Rattle.tdm_cli.specs.Reports.{answer_report, board_refused_report, cert_refused_report, no_input_report, read_fault_report, route_report, solution_refused_report, unconnectable_report, usage_report, use_limit_report, verdict_report};
+ghost use Rattle.tdm_cli.specs.Reports.{answer_report, board_refused_report, cert_refused_report, route_report, solution_refused_report, unconnectable_report, usage_report, use_limit_report, verdict_report};
 ghost use Rattle.tdm_cli.specs.Words.{IsCommand, IsEval, IsRoute};
 
 /// Each verb takes its number of names, none of them empty, and an output may bear the input's name, but not that of

@@ -8,17 +8,19 @@ mod best;
 mod certify;
 mod check;
 mod command;
+mod deciding;
 #[cfg(test)]
 mod definitions;
 mod eval;
+#[cfg(test)]
+mod fault_tests;
 mod numbers;
+mod outcome;
 mod prepare;
 mod reading;
-mod refusing;
 mod report;
 mod rounds;
 mod route;
-mod saying;
 mod status;
 mod tdm;
 #[cfg(test)]

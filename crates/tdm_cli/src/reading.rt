@@ -1,166 +1,252 @@
-//! Reading the inputs of a command.
-ghost use Rattle.std.specs.Prelude.{◌≡◌, ◌≤◌, ◌+◌, ◌^◌, [], length, vec_len, IfOk, OnOk, IfErr, IsErrOf};
-ghost use Rattle.tdm_desk.specs.Counts.{CountsFaults, ReadingFailed};
-ghost use Rattle.tdm_problem.specs.Routing.{IsFor};
-ghost use Rattle.bound_cert.specs.Certificate.{IsCertFor};
-ghost use Rattle.tdm_cli.specs.Change.{Says};
-ghost use Rattle.tdm_cli.specs.Judged.{WasRead, IsRefusal};
-ghost use Rattle.tdm_cli.specs.Settled.{IsReadOut, TouchesOnly};
-ghost use Rattle.tdm_cli.specs.Input.{IsBoardFile, IsSolutionFile, IsCertFile, HasFront, UnreadShows, BoardFaultShows, SolutionFaultShows, CertFaultShows};
+//! The texts that commands read.
+ghost use Rattle.std.specs.Prelude.{◌≡◌, ◌≤◌, ◌^◌, ◌+◌, ℕ, List, [], length, take, vec_len, Ok, IfOk};
+ghost use Rattle.tdm_problem.specs.Board.{Board};
+ghost use Rattle.tdm_problem.specs.Routing.{Routing};
+ghost use Rattle.contest_input.specs.Reader.{IsAt as IsAtBoard};
+ghost use Rattle.contest_input.specs.BoardText.{board_of};
+ghost use Rattle.solution_text.specs.Reader.{IsAt as IsAtSolution};
+ghost use Rattle.solution_text.specs.Reading.{solution_of};
+ghost use Rattle.bound_cert.specs.Certificate.{Cert};
+ghost use Rattle.bound_cert.specs.CertReader.{IsAt as IsAtCert};
+ghost use Rattle.bound_cert.specs.CertReading.{cert_of};
+ghost use Rattle.tdm_cli.specs.Kinds.{boards, solutions, certificates};
+ghost use Rattle.tdm_cli.specs.declared.reading.SolutionText.{SolutionText};
+ghost use Rattle.tdm_cli.specs.declared.reading.CertText.{CertText};
 
-use bound_cert::{CertFault, CertRefusal, Certificate, MAX_CERT_BYTES, read_cert};
-use contest_input::{
-    BoardFault, BoardRefusal, MAX_BOARD_BYTES, a_cut_text_says_the_same, read_board,
-};
-use solution_text::{MAX_SOLUTION_BYTES, SolutionFault, SolutionRefusal, read_solution};
-use std::alloc::Global;
-use tdm_desk::{Desk, DeskFault, InSlot, load};
+use crate::status::Status;
+use bound_cert::{CertFault, CertReader, CertRefusal, Certificate, MAX_CERT_BYTES};
+use command_run::{TextFault, TextReader, refused};
+use contest_input::{BoardFault, BoardReader, BoardRefusal, MAX_BOARD_BYTES};
+use solution_text::{MAX_SOLUTION_BYTES, SolutionFault, SolutionReader, SolutionRefusal};
+use std::alloc::{AllocError, Global};
 use tdm_problem::{Problem, Solution};
 
-/// Why an input was not read.
-#[derive(Debug, Drop)]
-pub enum Unread {
-    /// There is no file of its name.
-    NoFile,
-    /// Opening or reading it failed.
-    Failed,
-    /// Memory was wanting.
-    NoMemory,
+/// The text of a board.
+#[derive(Drop)]
+pub struct BoardText {
+    reader: BoardReader,
 }
 
-/// Why an input gave nothing: it was not read, or its text is refused.
-#[derive(Debug, Drop)]
-pub enum InputFault<R> {
-    /// It was not read.
-    NotRead(Unread),
-    /// The text is refused.
-    Refused(R),
-}
-
-/// Opens the file of this name, and reads it to its end or to one byte past the limit.
-fn read_bytes<D: Desk>(
-    alloc: Global,
-    desk: &mut D,
-    slot: InSlot,
-    name: &str,
-    limit: u64,
-) -> Result<Vec<u8>, Unread>
-    requires { limit ≤ 2 ^ 30 }
-    ensures within { IfOk result (λ bytes. vec_len bytes ≤ limit + 1) }
-    ensures ok { IfOk result (λ bytes. HasFront (D.seen desk.old) name.now (limit + 1) bytes.items) }
-    ensures read { IfOk result (λ bytes. length bytes.items ≤ limit → IsReadOut slot (D.seen desk.new)) }
-    ensures others { TouchesOnly slot (D.seen desk.old) (D.seen desk.new) }
-    ensures whole { IfOk result (λ _. WasRead slot limit name.now (D.seen desk.old) (D.seen desk.new)) }
-    ensures unread { IfErr result (UnreadShows (D.seen desk.old) name.now) }
-    ensures failed { IsErrOf result Unread.Failed →
-        ReadingFailed D.counts D.steady slot desk.old desk.new }
-    ensures silent { Says (D.seen desk.old) (D.seen desk.new) [] }
-    ensures counted { CountsFaults D.counts D.steady desk.old desk.new }
-{
-    match desk.open_input(slot, name) {
-        Ok(true) => match load(alloc, desk, slot, limit) {
-            Ok(bytes) => Ok(bytes),
-            Err(DeskFault::Failed) => Err(Unread::Failed),
-            Err(DeskFault::NoMemory) => Err(Unread::NoMemory),
-        },
-        Ok(false) => Err(Unread::NoFile),
-        Err(DeskFault::Failed) => Err(Unread::Failed),
-        Err(DeskFault::NoMemory) => Err(Unread::NoMemory),
+impl BoardText {
+    /// Before its first byte. No memory is taken.
+    pub fn new(alloc: Global) -> BoardText
+        ensures at { IsAtBoard result.reader [] }
+        ensures none { result.reader.fed ≡ 0 }
+    {
+        BoardText {
+            reader: BoardReader::new(alloc),
+        }
     }
 }
 
-/// Reads the board text in the file of this name. After a fault no file is changed and nothing is said.
-pub fn read_problem<D: Desk>(
-    alloc: Global,
-    desk: &mut D,
-    slot: InSlot,
-    name: &str,
-) -> Result<Problem, InputFault<BoardRefusal>>
-    ensures ok { IfOk result (IsBoardFile (D.seen desk.old) name.now) }
-    ensures read { OnOk result (IsReadOut slot (D.seen desk.new)) }
-    ensures others { TouchesOnly slot (D.seen desk.old) (D.seen desk.new) }
-    ensures whole { OnOk result (WasRead slot (2 ^ 28) name.now (D.seen desk.old) (D.seen desk.new)) }
-    ensures refused { IfErr result (λ fault. IsRefusal fault → WasRead slot (2 ^ 28) name.now (D.seen desk.old) (D.seen desk.new)) }
-    ensures fault { IfErr result (BoardFaultShows (D.seen desk.old) name.now) }
-    ensures failed { IsErrOf result (InputFault.NotRead Unread.Failed) →
-        ReadingFailed D.counts D.steady slot desk.old desk.new }
-    ensures silent { Says (D.seen desk.old) (D.seen desk.new) [] }
-    ensures counted { CountsFaults D.counts D.steady desk.old desk.new }
+/// A text that is accepted is within its limit, and a longer one is refused for any bytes behind one past the limit.
+fn long_boards_are_refused()
+    ensures same { (text : List ℕ) → board_of (take (2 ^ 28 + 1) text) ≡ board_of text }
+    ensures within { (text : List ℕ) (board : Board) → board_of text ≡ Ok board → length text ≤ 2 ^ 28 }
 {
-    let bytes = match read_bytes(alloc, desk, slot, name, MAX_BOARD_BYTES as u64) {
-        Ok(bytes) => bytes,
-        Err(unread) => return Err(InputFault::NotRead(unread)),
-    };
-    a_cut_text_says_the_same();
-    match read_board(alloc, bytes.as_slice()) {
-        Ok(problem) => Ok(problem),
-        Err(BoardFault::Refused(refusal)) => Err(InputFault::Refused(refusal)),
-        Err(BoardFault::NoMemory) => Err(InputFault::NotRead(Unread::NoMemory)),
+    contest_input::a_cut_text_says_the_same();
+}
+
+impl TextReader for BoardText {
+    type Status = Status;
+
+    type Value = Problem;
+
+    type Refusal = BoardRefusal;
+
+    ghost kind = { λ _. boards };
+
+    ghost limit = { λ _. 2 ^ 28 };
+
+    ghost known = { λ _ _. Unit {0} };
+
+    ghost is_at = { λ it text. IsAtBoard it.reader text };
+
+    ghost fed = { λ it. it.reader.fed };
+
+    fn limit(&self) -> u64 {
+        MAX_BOARD_BYTES as u64
+    }
+
+    fn cut(&self) {
+        long_boards_are_refused();
+    }
+
+    fn feed(&mut self, piece: &[u8]) -> Result<(), AllocError> {
+        self.reader.feed(piece)
+    }
+
+    fn end(self) -> Result<Problem, TextFault<BoardRefusal>> {
+        match self.reader.end() {
+            Ok(problem) => Ok(problem),
+            Err(BoardFault::Refused(refusal)) => Err(TextFault::Refused(refusal)),
+            Err(BoardFault::NoMemory) => Err(TextFault::NoMemory),
+        }
+    }
+
+    fn status() -> Status {
+        Status::BoardRefused
+    }
+
+    fn report(alloc: Global, refusal: BoardRefusal) -> Result<Vec<u8>, AllocError> {
+        refused(alloc, b"board refused ", refusal.kind.name(), refusal.line)
     }
 }
 
-/// Reads the solution text for the problem in the file of this name. After a fault no file is changed and nothing is
-/// said.
-pub fn read_routing<D: Desk>(
-    alloc: Global,
-    desk: &mut D,
-    slot: InSlot,
-    name: &str,
-    problem: &Problem,
-) -> Result<Solution, InputFault<SolutionRefusal>>
-    ensures ok { IfOk result (IsSolutionFile (D.seen desk.old) name.now problem.now) }
-    ensures read { OnOk result (IsReadOut slot (D.seen desk.new)) }
-    ensures others { TouchesOnly slot (D.seen desk.old) (D.seen desk.new) }
-    ensures whole { OnOk result (WasRead slot (2 ^ 30) name.now (D.seen desk.old) (D.seen desk.new)) }
-    ensures refused { IfErr result (λ fault. IsRefusal fault → WasRead slot (2 ^ 30) name.now (D.seen desk.old) (D.seen desk.new)) }
-    ensures for_problem { IfOk result (IsFor problem.now) }
-    ensures fault { IfErr result (SolutionFaultShows (D.seen desk.old) name.now problem.now) }
-    ensures failed { IsErrOf result (InputFault.NotRead Unread.Failed) →
-        ReadingFailed D.counts D.steady slot desk.old desk.new }
-    ensures silent { Says (D.seen desk.old) (D.seen desk.new) [] }
-    ensures counted { CountsFaults D.counts D.steady desk.old desk.new }
+/// The text of a solution for a problem.
+#[derive(Drop)]
+pub struct SolutionText<'a> {
+    problem: &'a Problem,
+    reader: SolutionReader,
+}
+
+impl<'a> SolutionText<'a> {
+    /// Before its first byte. No memory is taken.
+    pub fn new(alloc: Global, problem: &'a Problem) -> SolutionText<'a>
+        ensures problem { result.problem.now ≡ problem.now }
+        ensures at { IsAtSolution result.reader problem.now [] }
+        ensures none { result.reader.fed ≡ 0 }
+    {
+        SolutionText {
+            problem,
+            reader: SolutionReader::new(alloc, problem),
+        }
+    }
+}
+
+/// A text that is accepted is within its limit, and a longer one is refused for any bytes behind one past the limit.
+fn long_solutions_are_refused()
+    ensures same { (board : Board) (text : List ℕ) → solution_of board (take (2 ^ 30 + 1) text) ≡ solution_of board text }
+    ensures within { (board : Board) (text : List ℕ) (routing : Routing) → solution_of board text ≡ Ok routing → length text ≤ 2 ^ 30 }
 {
-    let bytes = match read_bytes(alloc, desk, slot, name, MAX_SOLUTION_BYTES as u64) {
-        Ok(bytes) => bytes,
-        Err(unread) => return Err(InputFault::NotRead(unread)),
-    };
     solution_text::cut_text_says_the_same();
-    match read_solution(alloc, bytes.as_slice(), problem) {
-        Ok(solution) => Ok(solution),
-        Err(SolutionFault::Refused(refusal)) => Err(InputFault::Refused(refusal)),
-        Err(SolutionFault::NoMemory) => Err(InputFault::NotRead(Unread::NoMemory)),
+}
+
+impl TextReader for SolutionText<'_> {
+    type Status = Status;
+
+    type Value = Solution;
+
+    type Refusal = SolutionRefusal;
+
+    ghost kind = { λ it. solutions it.problem.now };
+
+    ghost limit = { λ _. 2 ^ 30 };
+
+    ghost known = { λ _ _. Unit {0} };
+
+    ghost is_at = { λ it text. IsAtSolution it.reader it.problem.now text };
+
+    ghost fed = { λ it. it.reader.fed };
+
+    fn limit(&self) -> u64 {
+        MAX_SOLUTION_BYTES as u64
+    }
+
+    fn cut(&self) {
+        long_solutions_are_refused();
+    }
+
+    fn feed(&mut self, piece: &[u8]) -> Result<(), AllocError> {
+        self.reader.feed(piece)
+    }
+
+    fn end(self) -> Result<Solution, TextFault<SolutionRefusal>> {
+        match self.reader.end() {
+            Ok(solution) => Ok(solution),
+            Err(SolutionFault::Refused(refusal)) => Err(TextFault::Refused(refusal)),
+            Err(SolutionFault::NoMemory) => Err(TextFault::NoMemory),
+        }
+    }
+
+    fn status() -> Status
+        ensures { (it : SolutionText) → result ≡ (solutions it.problem.now).status }
+    {
+        Status::SolutionRefused
+    }
+
+    fn report(alloc: Global, refusal: SolutionRefusal) -> Result<Vec<u8>, AllocError>
+        ensures { IfOk result (λ text. (it : SolutionText) → text.items ≡ (solutions it.problem.now).report refusal) }
+    {
+        refused(alloc, b"solution refused ", refusal.kind.name(), refusal.line)
     }
 }
 
-/// Reads the certificate text for the problem in the file of this name. After a fault no file is changed and nothing is
-/// said.
-pub fn read_certificate<D: Desk>(
-    alloc: Global,
-    desk: &mut D,
-    slot: InSlot,
-    name: &str,
-    problem: &Problem,
-) -> Result<Certificate, InputFault<CertRefusal>>
-    ensures ok { IfOk result (IsCertFile (D.seen desk.old) name.now problem.now) }
-    ensures read { OnOk result (IsReadOut slot (D.seen desk.new)) }
-    ensures others { TouchesOnly slot (D.seen desk.old) (D.seen desk.new) }
-    ensures whole { OnOk result (WasRead slot (2 ^ 30) name.now (D.seen desk.old) (D.seen desk.new)) }
-    ensures refused { IfErr result (λ fault. IsRefusal fault → WasRead slot (2 ^ 30) name.now (D.seen desk.old) (D.seen desk.new)) }
-    ensures for_problem { IfOk result (IsCertFor problem.now) }
-    ensures fault { IfErr result (CertFaultShows (D.seen desk.old) name.now problem.now) }
-    ensures failed { IsErrOf result (InputFault.NotRead Unread.Failed) →
-        ReadingFailed D.counts D.steady slot desk.old desk.new }
-    ensures silent { Says (D.seen desk.old) (D.seen desk.new) [] }
-    ensures counted { CountsFaults D.counts D.steady desk.old desk.new }
+/// The text of a certificate for a problem.
+#[derive(Drop)]
+pub struct CertText<'a> {
+    problem: &'a Problem,
+    reader: CertReader,
+}
+
+impl<'a> CertText<'a> {
+    /// Before its first byte. No memory is taken.
+    pub fn new(alloc: Global, problem: &'a Problem) -> CertText<'a>
+        ensures problem { result.problem.now ≡ problem.now }
+        ensures at { IsAtCert result.reader problem.now [] }
+        ensures none { result.reader.fed ≡ 0 }
+    {
+        CertText {
+            problem,
+            reader: CertReader::new(alloc, problem),
+        }
+    }
+}
+
+/// A text that is accepted is within its limit, and a longer one is refused for any bytes behind one past the limit.
+fn long_certificates_are_refused()
+    ensures same { (board : Board) (text : List ℕ) → cert_of board (take (2 ^ 30 + 1) text) ≡ cert_of board text }
+    ensures within { (board : Board) (text : List ℕ) (cert : Cert) → cert_of board text ≡ Ok cert → length text ≤ 2 ^ 30 }
 {
-    let bytes = match read_bytes(alloc, desk, slot, name, MAX_CERT_BYTES as u64) {
-        Ok(bytes) => bytes,
-        Err(unread) => return Err(InputFault::NotRead(unread)),
-    };
     bound_cert::cut_text_says_the_same();
-    match read_cert(alloc, bytes.as_slice(), problem) {
-        Ok(cert) => Ok(cert),
-        Err(CertFault::Refused(refusal)) => Err(InputFault::Refused(refusal)),
-        Err(CertFault::NoMemory) => Err(InputFault::NotRead(Unread::NoMemory)),
+}
+
+impl TextReader for CertText<'_> {
+    type Status = Status;
+
+    type Value = Certificate;
+
+    type Refusal = CertRefusal;
+
+    ghost kind = { λ it. certificates it.problem.now };
+
+    ghost limit = { λ _. 2 ^ 30 };
+
+    ghost known = { λ _ _. Unit {0} };
+
+    ghost is_at = { λ it text. IsAtCert it.reader it.problem.now text };
+
+    ghost fed = { λ it. it.reader.fed };
+
+    fn limit(&self) -> u64 {
+        MAX_CERT_BYTES as u64
+    }
+
+    fn cut(&self) {
+        long_certificates_are_refused();
+    }
+
+    fn feed(&mut self, piece: &[u8]) -> Result<(), AllocError> {
+        self.reader.feed(piece)
+    }
+
+    fn end(self) -> Result<Certificate, TextFault<CertRefusal>> {
+        match self.reader.end() {
+            Ok(cert) => Ok(cert),
+            Err(CertFault::Refused(refusal)) => Err(TextFault::Refused(refusal)),
+            Err(CertFault::NoMemory) => Err(TextFault::NoMemory),
+        }
+    }
+
+    fn status() -> Status
+        ensures { (it : CertText) → result ≡ (certificates it.problem.now).status }
+    {
+        Status::CertRefused
+    }
+
+    fn report(alloc: Global, refusal: CertRefusal) -> Result<Vec<u8>, AllocError>
+        ensures { IfOk result (λ text. (it : CertText) → text.items ≡ (certificates it.problem.now).report refusal) }
+    {
+        refused(alloc, b"certificate refused ", refusal.kind.name(), refusal.line)
     }
 }

@@ -1,76 +1,73 @@
-//! The command `route`.
-ghost use Rattle.std.specs.Prelude.{◌≡◌, ◌^◌, []};
-ghost use Rattle.tdm_desk.specs.Seen.{Seen, output_is_open};
-ghost use Rattle.tdm_desk.specs.Counts.{CountsFaults, ReadingFailed, WritingFailed};
-ghost use Rattle.tdm_desk.specs.declared.slots.InSlot.TheVariants.{In0};
-ghost use Rattle.tdm_desk.specs.declared.slots.OutSlot.TheVariants.{Out0, Out1, Out2};
-ghost use Rattle.tdm_cli.specs.Change.{Says};
-ghost use Rattle.tdm_cli.specs.Judged.{WasRead, JudgesBoard};
-ghost use Rattle.tdm_cli.specs.Settled.{KeepsInputs, IsClosed, IsSettled, TouchesRouteSlots};
-ghost use Rattle.tdm_cli.specs.Ends.{NetsEnds, RouteEnds};
-ghost use Rattle.tdm_cli.specs.declared.status.Status.TheVariants.{Ok, ReadFault, WriteFault};
+//! The command `route`, once its input is had.
+ghost use Rattle.std.specs.Prelude.{◌≡◌, [], ◌∷◌, ℕ, IfOk};
+ghost use Rattle.tdm_problem.specs.Board.{Board};
+ghost use Rattle.command_run.specs.Outcome.{outcome_of};
+ghost use Rattle.tdm_cli.specs.Texts.{text_of};
+ghost use Rattle.tdm_cli.specs.Obstacle.{ObstacleShows};
+ghost use Rattle.tdm_cli.specs.Outcomes.{Routes};
+ghost use Rattle.tdm_cli.specs.declared.writing.Output.TheVariants as output;
 
+use crate::baseline::Obstacle;
+use crate::outcome::said;
 use crate::prepare::prepare;
-use crate::reading::read_problem;
-use crate::refusing::{refuse_board, refuse_nets};
+use crate::report;
 use crate::status::Status;
-use crate::writing::deliver;
-use std::alloc::Global;
-use tdm_desk::{Desk, InSlot};
-use tdm_problem::Problem;
+use crate::writing::Output;
+use bound_cert::Certificate;
+use command_run::Prepared;
+use std::alloc::{AllocError, Global};
+use tdm_problem::{Problem, Solution};
 
-/// Routes the nets of a problem by so many rounds, writes the solution and the certificate to the files of these names,
-/// and reports the value and the bound.
-fn route_nets<D: Desk>(
+/// The texts of a solution and of a certificate, in this order.
+fn texts(
     alloc: Global,
-    desk: &mut D,
-    problem: &Problem,
-    solution: &str,
-    cert: &str,
-    rounds: u32,
-) -> Status
-    ensures ends { (before : Seen) → Says before (D.seen desk.old) []
-        → NetsEnds before (D.seen desk.new) problem.now solution.now cert.now rounds result }
-    ensures inputs { KeepsInputs (D.seen desk.old) (D.seen desk.new) }
-    ensures closed { result ≡ Ok → IsClosed Out0 (D.seen desk.new) × IsClosed Out1 (D.seen desk.new) }
-    ensures third { output_is_open Out2 (D.seen desk.new) ≡ output_is_open Out2 (D.seen desk.old) }
-    ensures write_fault { result ≡ WriteFault → WritingFailed D.counts D.steady desk.old desk.new }
-    ensures counted { CountsFaults D.counts D.steady desk.old desk.new }
+    solution: Solution,
+    cert: Certificate,
+) -> Result<Vec<Output>, AllocError>
+    ensures { IfOk result (λ texts. texts.items ≡ output.Solution solution ∷ output.Cert cert ∷ []) }
 {
-    match prepare(alloc, problem, rounds) {
-        Ok(plan) => deliver(
-            desk,
-            solution,
-            &plan.solution,
-            cert,
-            &plan.cert,
-            plan.report.as_slice(),
-        ),
-        Err(obstacle) => refuse_nets(alloc, desk, &obstacle),
+    let mut texts = Vec::new(alloc);
+    texts.push(Output::Solution(solution))?;
+    texts.push(Output::Cert(cert))?;
+    Ok(texts)
+}
+
+/// What is said of nets that have no solution that may be written.
+fn obstructed(alloc: Global, obstacle: &Obstacle) -> Result<Prepared<Status, Output>, AllocError>
+    ensures { IfOk result (λ prepared. (board : Board) (rounds : ℕ) → ObstacleShows board obstacle.now
+        → Routes board rounds (outcome_of text_of 1 prepared)) }
+{
+    match obstacle {
+        Obstacle::Unconnectable(nets) => {
+            let report = report::unconnectable(alloc, nets.as_slice())?;
+            Ok(said(alloc, Status::Unconnectable, report))
+        }
+        Obstacle::UseLimit => {
+            let report = Vec::from_slice(alloc, report::USE_LIMIT)?;
+            Ok(said(alloc, Status::UseLimit, report))
+        }
+        Obstacle::NoMemory => Err(AllocError),
     }
 }
 
-/// Reads the board, routes its nets by so many rounds, writes the solution and a certificate, and says what they are
-/// worth, or why there are none.
-pub fn route<D: Desk>(
+/// Routes the nets of a problem by so many rounds: a solution and a certificate with their value and bound, or why there
+/// are none. The only error is want of memory.
+pub fn route(
     alloc: Global,
-    desk: &mut D,
-    board: &str,
-    solution: &str,
-    cert: &str,
+    problem: &Problem,
     rounds: u32,
-) -> Status
-    ensures ends { RouteEnds (D.seen desk.old) (D.seen desk.new) board.now solution.now cert.now rounds result }
-    ensures settled { result ≡ Ok → IsSettled (D.seen desk.new) }
-    ensures slots { TouchesRouteSlots (D.seen desk.old) (D.seen desk.new) }
-    ensures judged { JudgesBoard result → WasRead In0 (2 ^ 28) board.now (D.seen desk.old) (D.seen desk.new) }
-    ensures read_fault { result ≡ ReadFault →
-        ReadingFailed D.counts D.steady In0 desk.old desk.new }
-    ensures write_fault { result ≡ WriteFault → WritingFailed D.counts D.steady desk.old desk.new }
-    ensures counted { CountsFaults D.counts D.steady desk.old desk.new }
+) -> Result<Prepared<Status, Output>, AllocError>
+    ensures { IfOk result (λ prepared. Routes problem.now rounds (outcome_of text_of 1 prepared)) }
 {
-    match read_problem(alloc, desk, InSlot::In0, board) {
-        Ok(problem) => route_nets(alloc, desk, &problem, solution, cert, rounds),
-        Err(fault) => refuse_board(alloc, desk, &fault),
+    match prepare(alloc, problem, rounds) {
+        Ok(plan) => {
+            let texts = texts(alloc, plan.solution, plan.cert)?;
+            Ok(Prepared {
+                status: Status::Ok,
+                report: plan.report,
+                texts,
+            })
+        }
+        Err(obstacle) => obstructed(alloc, &obstacle),
     }
 }

@@ -1,6 +1,8 @@
 ghost use Rattle.std.specs.Prelude.{◌≡◌};
 ghost use Rattle.tdm_cli.specs.Code.{code_of};
 
+use command_run::RunStatus;
+
 /// How a run of the command ended. Its code is what the process ends with.
 #[derive(Clone, Copy, Debug, PartialEq, Eq)]
 pub enum Status {
@@ -52,5 +54,34 @@ impl Status {
             Status::UseLimit => 11,
             Status::NoInput => 14,
         }
+    }
+}
+
+impl RunStatus for Status {
+    ghost use Rattle.tdm_cli.specs.declared.status.Status.TheVariants as status;
+
+    ghost faults = { record {
+      no_input = status.NoInput;
+      read_fault = status.ReadFault;
+      write_fault = status.WriteFault;
+      out_of_memory = status.OutOfMemory;
+    } };
+
+    fn apart() {}
+
+    fn no_input() -> Status {
+        Status::NoInput
+    }
+
+    fn read_fault() -> Status {
+        Status::ReadFault
+    }
+
+    fn write_fault() -> Status {
+        Status::WriteFault
+    }
+
+    fn out_of_memory() -> Status {
+        Status::OutOfMemory
     }
 }

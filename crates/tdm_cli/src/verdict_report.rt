@@ -3,6 +3,7 @@ ghost use Rattle.std.specs.Prelude.{◌≡◌, IfOk};
 ghost use Rattle.tdm_cli.specs.Reports.{verdict_report};
 
 use crate::report;
+use command_run::{push_line, push_number};
 use solution_eval::Verdict;
 use std::alloc::{AllocError, Global};
 
@@ -11,7 +12,7 @@ fn not_joined(alloc: Global, net: u32) -> Result<Vec<u8>, AllocError>
     ensures { IfOk result (λ text. text.items ≡ verdict_report (Verdict.NotJoined net)) }
 {
     let mut text = Vec::new(alloc);
-    report::push_number(&mut text, b"illegal net ", u128::from(net))?;
+    push_number(&mut text, b"illegal net ", u128::from(net))?;
     text.extend_from_slice(b" not joined\n")?;
     Ok(text)
 }
@@ -21,9 +22,9 @@ fn bad_ratio(alloc: Global, net: u32, wire: u32, ratio: u32) -> Result<Vec<u8>, 
     ensures { IfOk result (λ text. text.items ≡ verdict_report (Verdict.BadRatio net wire ratio)) }
 {
     let mut text = Vec::new(alloc);
-    report::push_number(&mut text, b"illegal net ", u128::from(net))?;
-    report::push_number(&mut text, b" wire ", u128::from(wire))?;
-    report::push_line(&mut text, b" ratio ", u128::from(ratio))?;
+    push_number(&mut text, b"illegal net ", u128::from(net))?;
+    push_number(&mut text, b" wire ", u128::from(wire))?;
+    push_line(&mut text, b" ratio ", u128::from(ratio))?;
     Ok(text)
 }
 
@@ -32,7 +33,7 @@ fn overfull(alloc: Global, wire: u32) -> Result<Vec<u8>, AllocError>
     ensures { IfOk result (λ text. text.items ≡ verdict_report (Verdict.Overfull wire)) }
 {
     let mut text = Vec::new(alloc);
-    report::push_number(&mut text, b"illegal wire ", u128::from(wire))?;
+    push_number(&mut text, b"illegal wire ", u128::from(wire))?;
     text.extend_from_slice(b" overfull\n")?;
     Ok(text)
 }

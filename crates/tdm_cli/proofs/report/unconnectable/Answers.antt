@@ -2,7 +2,7 @@ use Rattle.std.proofs.Common.{◌≡◌, ℕ, ◌+◌, ◌<◌, List, [], ◌∷
 use Rattle.std.specs.List.{flat_map}
 use Rattle.std.proofs.lemmas.List.{take_more, append-nil}
 use Rattle.std.proofs.lemmas.Grind.{flat_map-append}
-use Rattle.tdm_cli.specs.Reports.{numbered}
+use Rattle.command_run.specs.Reports.{numbered}
 use Rattle.tdm_cli.proofs.report.unconnectable.Goals as goal
 
 -- the pieces of one more element
@@ -12,4 +12,4 @@ flat_map-take f xs i d h = ap (flat_map f) (take_more xs i d h) ∙ flat_map-app
 pub loop-net-preserved : goal.loop-net-preserved
 loop-net-preserved c =
     let more = flat_map-take (numbered (codes "unconnectable net ")) c.args.nets.now c.loop-net.net-index 0 c.loop-net-test.true in
-    cc (c.loop-net.invariant, c.in_ok-push_line.ensures.ok)
+    cc (c.loop-net.invariant, c.in_ok-push_line.ensures)

@@ -1,64 +1,66 @@
-use Rattle.std.proofs.Common.{refl, subst, codes}
-use Rattle.tdm_cli.specs.Words.{is_route, is_eval, is_check}
-use Rattle.tdm_cli.specs.Ends.{UsageEnds, RouteEnds}
-use Rattle.tdm_cli.specs.EvalEnds.{EvalEnds}
-use Rattle.tdm_cli.specs.CheckEnds.{CheckEnds}
-use Rattle.tdm_cli.proofs.WordLaws.{names-are, route-is}
-use Rattle.tdm_cli.proofs.ChangeLaws.{says_nothing}
-use Rattle.tdm_cli.proofs.EndsLaws.{reported}
+use Rattle.std.proofs.Common.{◌≡◌, ◌≤◌, ℕ, List, [], ◌∷◌, length, map, refl, sym, ap, subst, ◌∙◌, arith, string_bytes}
+use Rattle.std.proofs.lemmas.List.{length-map}
+use Rattle.command_run.specs.Ends.{RunEnds}
+use Rattle.command_run.proofs.DecisionLaws.{decides-last}
+use Rattle.command_run.proofs.EndsLaws.{run-ends}
+use Rattle.command_run.proofs.StatusLaws.{has-room}
+use Rattle.tdm_cli.specs.Kinds.{faults}
+use Rattle.tdm_cli.specs.Request.{Request, route, eval, check, nothing, inputs_of}
+use Rattle.tdm_cli.specs.Outcomes.{CallsFor, refused_words}
+use Rattle.tdm_cli.proofs.RequestLaws.{few-texts, names-behind}
 use Rattle.tdm_cli.proofs.tdm.run_words.Goals as goal
 
-pub returns-in-None-clause-no_command : goal.returns-in-None-clause-no_command
-returns-in-None-clause-no_command g c = λ not_command.
-    reported g.D.Desk.counts g.D.Desk.steady g.D.Desk.seen (UsageEnds (g.D.Desk.seen c.args.desk.now) (g.D.Desk.seen c.conclude.new.desk)) (g.D.Desk.seen c.args.desk.now) c.args.desk.now c.conclude.new.desk _ _ _ (says_nothing _ _ refl refl) (λ says. says) (λ spoke. spoke) (λ spoke. spoke) c.conclude.ensures.ends
+pub output_names-requires : goal.output_names-requires
+output_names-requires g c =
+    let is = rw c.in-Some-Route.field-0-is at c.in-Some-Route.ensures.found in
+    omega (arith, ap (λ (words : List (List ℕ)). length words) is.words_are, length-map c.args.words.now string_bytes)
 
-pub returns-in-None-clause-route : goal.returns-in-None-clause-route
-returns-in-None-clause-route g c = λ board solution cert rounds is. absurd (c.in-None.ensures.none (is_route board solution cert rounds is))
+pub conclude-requires : goal.conclude-requires
+conclude-requires g c =
+    let is = rw c.in-Some-Route.field-0-is at c.in-Some-Route.ensures.found in
+    let names = ap (map string_bytes) c.output_names.ensures ∙ names-behind string_bytes c.args.words.now _ _ _ _ is.further is.words_are in
+    has-room _ _ _ _ _ _ _ 2 (omega (arith, ap (λ (ns : List (List ℕ)). length ns) names)) (omega arith)
+    (few-texts (route c.in-Some-Route.board.now c.in-Some-Route.field-0-1.now c.in-Some-Route.field-0-2.now c.in-Some-Route.rounds))
+    c.decide_route-decision.result c.decide_route-decision.ensures
 
-pub returns-in-Some-Route-clause-route : goal.returns-in-Some-Route-clause-route
-returns-in-Some-Route-clause-route g c = λ board solution cert rounds is.
-    let old = g.D.Desk.seen c.args.desk.now in
-    let new = g.D.Desk.seen c.route.new.desk in
-    let same = route-is _ _ _ _ _ board solution cert rounds (rw c.in-Some-Route.field-0-is at c.in-Some-Route.ensures.found) is in
-    subst (λ b. RouteEnds old new b solution cert rounds c.route.result) same.0
-    (subst (λ s. RouteEnds old new c.in-Some-Route.board.now s cert rounds c.route.result) same.1
-    (subst (λ n. RouteEnds old new c.in-Some-Route.board.now c.in-Some-Route.solution.now n rounds c.route.result) same.2
-    (subst (λ count. RouteEnds old new c.in-Some-Route.board.now c.in-Some-Route.solution.now c.in-Some-Route.cert.now count c.route.result) same.3 c.route.ensures.ends)))
+pub conclude-requires-in-Some-Eval : goal.conclude-requires-in-Some-Eval
+conclude-requires-in-Some-Eval g c =
+    has-room _ _ _ [] _ _ _ 0 (omega arith) (omega arith) (few-texts (eval c.in-Some-Eval.board.now c.in-Some-Eval.solution.now)) c.decide_eval-decision.result c.decide_eval-decision.ensures
 
-pub returns-in-None-clause-eval : goal.returns-in-None-clause-eval
-returns-in-None-clause-eval g c = λ board solution is. absurd (c.in-None.ensures.none (is_eval board solution is))
+pub conclude-requires-in-Some-Check : goal.conclude-requires-in-Some-Check
+conclude-requires-in-Some-Check g c =
+    has-room _ _ _ [] _ _ _ 0 (omega arith) (omega arith) (few-texts (check c.in-Some-Check.board.now c.in-Some-Check.cert.now)) c.decide_check-decision.result c.decide_check-decision.ensures
 
-pub returns-in-Some-Route-clause-no_command : goal.returns-in-Some-Route-clause-no_command
-returns-in-Some-Route-clause-no_command g c = λ not_command. absurd (not_command (is_route _ _ _ _ (rw c.in-Some-Route.field-0-is at c.in-Some-Route.ensures.found)))
+pub returns-in-Some-Route-clause-ran : goal.returns-in-Some-Route-clause-ran
+returns-in-Some-Route-clause-ran g c =
+    let is = rw c.in-Some-Route.field-0-is at c.in-Some-Route.ensures.found in
+    let request = route c.in-Some-Route.board.now c.in-Some-Route.field-0-1.now c.in-Some-Route.field-0-2.now c.in-Some-Route.rounds in
+    let names = ap (map string_bytes) c.output_names.ensures ∙ names-behind string_bytes c.args.words.now _ _ _ _ is.further is.words_are in
+    let room = has-room _ _ _ _ _ _ _ 2 (omega (arith, ap (λ (ns : List (List ℕ)). length ns) names)) (omega arith) (few-texts request) c.decide_route-decision.result c.decide_route-decision.ensures in
+    (
+      request,
+      is,
+      subst (λ outputs. RunEnds g.D.Desk.counts g.D.Desk.steady g.D.Desk.seen faults (inputs_of request) outputs (CallsFor request) c.args.desk.now c.conclude.new.desk c.conclude.result) names
+          (run-ends _ _ _ _ _ _ _ _ _ _ _ _ c.decide_route-decision.result c.decide_route-decision.ensures room c.conclude.ensures),
+    )
 
-pub returns-in-Some-Eval-clause-no_command : goal.returns-in-Some-Eval-clause-no_command
-returns-in-Some-Eval-clause-no_command g c = λ not_command. absurd (not_command (is_eval _ _ (rw c.in-Some-Eval.field-0-is at c.in-Some-Eval.ensures.found)))
+pub returns-in-Some-Eval-clause-ran : goal.returns-in-Some-Eval-clause-ran
+returns-in-Some-Eval-clause-ran g c =
+    let is = rw c.in-Some-Eval.field-0-is at c.in-Some-Eval.ensures.found in
+    let request = eval c.in-Some-Eval.board.now c.in-Some-Eval.solution.now in
+    let room = has-room _ _ _ [] _ _ _ 0 (omega arith) (omega arith) (few-texts request) c.decide_eval-decision.result c.decide_eval-decision.ensures in
+    (request, is, run-ends _ _ _ _ _ _ _ _ _ _ _ _ c.decide_eval-decision.result c.decide_eval-decision.ensures room c.conclude-in-Some-Eval.ensures)
 
-pub returns-in-None-clause-check : goal.returns-in-None-clause-check
-returns-in-None-clause-check g c = λ board cert is. absurd (c.in-None.ensures.none (is_check board cert is))
+pub returns-in-Some-Check-clause-ran : goal.returns-in-Some-Check-clause-ran
+returns-in-Some-Check-clause-ran g c =
+    let is = rw c.in-Some-Check.field-0-is at c.in-Some-Check.ensures.found in
+    let request = check c.in-Some-Check.board.now c.in-Some-Check.cert.now in
+    let room = has-room _ _ _ [] _ _ _ 0 (omega arith) (omega arith) (few-texts request) c.decide_check-decision.result c.decide_check-decision.ensures in
+    (request, is, run-ends _ _ _ _ _ _ _ _ _ _ _ _ c.decide_check-decision.result c.decide_check-decision.ensures room c.conclude-in-Some-Check.ensures)
 
-pub returns-in-Some-Check-clause-no_command : goal.returns-in-Some-Check-clause-no_command
-returns-in-Some-Check-clause-no_command g c = λ not_command. absurd (not_command (is_check _ _ (rw c.in-Some-Check.field-0-is at c.in-Some-Check.ensures.found)))
-
-pub returns-in-Some-Check-clause-check : goal.returns-in-Some-Check-clause-check
-returns-in-Some-Check-clause-check g c = λ board cert is.
-    let old = g.D.Desk.seen c.args.desk.now in
-    let new = g.D.Desk.seen c.check.new.desk in
-    let names = names-are (codes "check") _ _ _ board cert (rw c.in-Some-Check.field-0-is at c.in-Some-Check.ensures.found) is in
-    subst (λ b. CheckEnds old new b cert c.check.result) names.0 (subst (λ n. CheckEnds old new c.in-Some-Check.board.now n c.check.result) names.1 c.check.ensures.ends)
-
-pub returns-in-Some-Eval-clause-eval : goal.returns-in-Some-Eval-clause-eval
-returns-in-Some-Eval-clause-eval g c = λ board solution is.
-    let old = g.D.Desk.seen c.args.desk.now in
-    let new = g.D.Desk.seen c.eval.new.desk in
-    let names = names-are (codes "eval") _ _ _ board solution (rw c.in-Some-Eval.field-0-is at c.in-Some-Eval.ensures.found) is in
-    subst (λ b. EvalEnds old new b solution c.eval.result) names.0 (subst (λ n. EvalEnds old new c.in-Some-Eval.board.now n c.eval.result) names.1 c.eval.ensures.ends)
-
-pub returns-in-Some-Route-clause-usage_slots : goal.returns-in-Some-Route-clause-usage_slots
-returns-in-Some-Route-clause-usage_slots g c = λ not_command. absurd (not_command (is_route _ _ _ _ (rw c.in-Some-Route.field-0-is at c.in-Some-Route.ensures.found)))
-
-pub returns-in-Some-Eval-clause-usage_slots : goal.returns-in-Some-Eval-clause-usage_slots
-returns-in-Some-Eval-clause-usage_slots g c = λ not_command. absurd (not_command (is_eval _ _ (rw c.in-Some-Eval.field-0-is at c.in-Some-Eval.ensures.found)))
-
-pub returns-in-Some-Check-clause-usage_slots : goal.returns-in-Some-Check-clause-usage_slots
-returns-in-Some-Check-clause-usage_slots g c = λ not_command. absurd (not_command (is_check _ _ (rw c.in-Some-Check.field-0-is at c.in-Some-Check.ensures.found)))
+pub returns-in-None-clause-ran : goal.returns-in-None-clause-ran
+returns-in-None-clause-ran g c =
+    let none = c.in-None.ensures.none in
+    let decided = decides-last _ _ _ (λ outcome. outcome ≡ refused_words) c.args.desk.now c.refused.result c.decided.result c.refused.ensures c.decided.ensures.some c.decided.ensures.wanting in
+    let room = has-room _ _ [] [] _ _ _ 0 (omega arith) (omega arith) (few-texts nothing) c.decided.result decided in
+    (nothing, none, run-ends _ _ _ _ _ _ _ _ _ _ _ _ c.decided.result decided room c.conclude-in-None.ensures)

@@ -1,0 +1,131 @@
+-- What the end of a run says, whatever was asked for.
+use Rattle.std.proofs.Common.{◌≡◌, ◌⊎◌, ℕ, ◌<◌, ◌≤◌, ◌+◌, List, [], ◌∷◌, ◌++◌, length, refl, sym, ap, subst, ◌∙◌, inl, inr, arith, drop}
+use Rattle.std.specs.Prelude.{Option, Some, None, option_map}
+use Rattle.tdm_desk.specs.declared.slots.InSlot.{InSlot}
+use Rattle.tdm_desk.specs.Files.{Files, Name}
+use Rattle.tdm_desk.specs.Seen.{Seen, files_of, said_of}
+use Rattle.tdm_desk.specs.Counts.{Counts, ReadingFailed, WritingFailed, read_counted}
+use Rattle.command_run.specs.Slots.{place, KeepsInputsBut, KeepsOutputs, KeepsOutputsBehind, AreClosed}
+use Rattle.command_run.specs.Outcome.{Outcome, HasFailed, with_unread}
+use Rattle.command_run.specs.Inputs.{Content, HoldEach, contents_in, unread}
+use Rattle.command_run.specs.Decision.{IsCalledFor}
+use Rattle.command_run.specs.Outputs.{Leaves, IsStop, IsPutOut, IsCutOff}
+use Rattle.command_run.specs.Ends.{RunEnds}
+use Rattle.command_run.proofs.DecisionLaws.{wider}
+use Rattle.command_run.proofs.StatusLaws.{contents-told}
+use Rattle.tdm_cli.specs.declared.status.Status.{Status}
+use Rattle.tdm_cli.specs.declared.status.Status.TheVariants as status
+use Rattle.tdm_cli.specs.Kinds.{faults}
+use Rattle.tdm_cli.specs.Request.{Request, inputs_of, outputs_of}
+use Rattle.tdm_cli.specs.Outcomes.{CallsFor}
+use Rattle.tdm_cli.specs.Asked.{StatusFor, IsOutsideFault}
+use Rattle.tdm_cli.specs.Ended.{TouchesOnly, WritesNothing, ReportsReadFault}
+use Rattle.tdm_cli.proofs.FairLaws.{IsOwn, IsNothing, IsUnread, IsDecided, IsFair, fair}
+use Rattle.tdm_cli.proofs.AskedLaws.{status-for, status-one}
+
+module _ {D : Type 0} (counts : D → Counts) (steady : D → Type 0) (seen : D → Seen) (request : Request) (before after : D) (answer : Status) where
+  abbrev Ends : Type 0
+  Ends = RunEnds counts steady seen faults (inputs_of request) (outputs_of request) (CallsFor request) before after answer
+
+  abbrev Came : Outcome Status → Type 0
+  Came outcome = IsCalledFor counts steady seen 0 (inputs_of request) (CallsFor request) outcome before after
+
+  abbrev Put : Outcome Status → Type 0
+  Put outcome = IsPutOut counts steady seen faults (outputs_of request) outcome.texts outcome.report outcome.status outcome.unread before after answer
+
+  -- an outcome was put out, of which all inputs could be read or one could not; or writing failed, or memory was wanting
+  pub ended : Ends → (P : Type 0)
+      → ((outcome : Outcome Status) → Came outcome → Put outcome → KeepsOutputsBehind (length outcome.texts) (seen before) (seen after) → IsDecided request outcome → P)
+      → ((slot : InSlot) → place slot ≤ length (inputs_of request) → Came (unread faults slot) → Put (unread faults slot) → KeepsOutputsBehind 0 (seen before) (seen after) → P)
+      → (answer ≡ status.WriteFault → WritingFailed counts steady before after → P)
+      → (answer ≡ status.OutOfMemory → P) → P
+  ended (inr wanted) P whole failed unwritten wanting = wanting wanted.wanting
+  ended (inl ends) P whole failed unwritten wanting = by ends.ends
+    where
+      put-out : (outcome : Outcome Status) → Came outcome → Put outcome → KeepsOutputsBehind (length outcome.texts) (seen before) (seen after) → IsFair request outcome → P
+      put-out outcome came put kept (inr decided) = whole outcome came put kept decided
+      put-out outcome came put kept (inl (slot, near, is)) =
+          failed slot near (subst Came is came) (subst Put is put) (subst (λ (o : Outcome Status). KeepsOutputsBehind (length o.texts) (seen before) (seen after)) is kept)
+
+      by : IsPutOut counts steady seen faults (outputs_of request) ends.outcome.texts ends.outcome.report ends.outcome.status ends.outcome.unread before after answer
+          ⊎ IsCutOff counts steady seen faults (outputs_of request) ends.outcome.texts ends.outcome.report ends.outcome.status ends.outcome.unread before after answer → P
+      by (inl put) = put-out ends.outcome ends.came put ends.untouched (fair request ends.came.contents ends.outcome ends.came.called)
+      by (inr cut) = stop cut.cause
+        where
+          stop : IsStop counts steady faults ends.outcome.unread before after answer → P
+          stop (inl fault) = unwritten fault.0 fault.1
+          stop (inr wanted) = wanting wanted.0
+
+  -- the status is the command's own
+  decided-own : (outcome : Outcome Status) → Put outcome → IsDecided request outcome → IsOwn answer
+  decided-own outcome put decided = subst IsOwn (sym put.stands) decided.own
+
+  -- where the desk tells its files, the outcome is one that they call for
+  pub told-calls : (files : Files) → files_of (seen before) ≡ Some files → (outcome : Outcome Status) → Came outcome → IsDecided request outcome → CallsFor request (contents_in files (inputs_of request)) outcome
+  told-calls files told outcome came decided =
+      subst (λ cs. CallsFor request cs outcome)
+      (contents-told outcome.opened files (seen before) (seen after) told (inputs_of request) came.contents
+      (subst (λ u. HoldEach outcome.opened u (inputs_of request) came.contents (seen before) (seen after)) decided.readable came.held)) came.called
+
+  -- the answer is a status that the files call for
+  told-status : (files : Files) → files_of (seen before) ≡ Some files → (outcome : Outcome Status) → Came outcome → Put outcome → IsDecided request outcome → StatusFor request files answer
+  told-status files told outcome came put decided =
+      subst (StatusFor request files) (sym put.stands) (status-for request files outcome (told-calls files told outcome came decided))
+
+  pub run-cause : Ends → (files : Files) → files_of (seen before) ≡ Some files → IsOutsideFault answer ⊎ StatusFor request files answer
+  run-cause ends files told = ended ends (IsOutsideFault answer ⊎ StatusFor request files answer)
+      (λ outcome came put kept decided. inr (told-status files told outcome came put decided))
+      (λ slot near came put kept. inl (subst IsOutsideFault (sym put.stands) tt))
+      (λ is failed. inl (subst IsOutsideFault (sym is) tt))
+      (λ is. inl (subst IsOutsideFault (sym is) tt))
+
+  pub run-exact : Ends → (files : Files) → files_of (seen before) ≡ Some files → (called : Status) → StatusFor request files called → (answer ≡ called) ⊎ IsOutsideFault answer
+  run-exact ends files told called calls = by (run-cause ends files told)
+    where
+      by : IsOutsideFault answer ⊎ StatusFor request files answer → (answer ≡ called) ⊎ IsOutsideFault answer
+      by (inl fault) = inr fault
+      by (inr is) = inl (status-one request files answer called is calls)
+
+  pub run-complete : Ends → (files : Files) → files_of (seen before) ≡ Some files → (called : Status) → StatusFor request files called
+      → ((slot : InSlot) → ReadingFailed counts steady slot before after → ⊥) → (WritingFailed counts steady before after → ⊥) → (answer ≡ called) ⊎ (answer ≡ status.OutOfMemory)
+  run-complete ends files told called calls no_read no_write = ended ends ((answer ≡ called) ⊎ (answer ≡ status.OutOfMemory))
+      (λ outcome came put kept decided. inl (status-one request files answer called (told-status files told outcome came put decided) calls))
+      (λ slot near came put kept. absurd (no_read slot came.failed))
+      (λ is failed. absurd (no_write failed))
+      (λ is. inr is)
+
+  pub run-read_fault : Ends → answer ≡ status.ReadFault → ReportsReadFault counts steady seen request before after
+  run-read_fault ends fault = ended ends (ReportsReadFault counts steady seen request before after)
+      (λ outcome came put kept decided. absurd (subst IsOwn fault (decided-own outcome put decided)))
+      (λ slot near came put kept. record { slot = slot; asked = near; failed = came.failed; own = put.own; said = put.left.said })
+      (λ is failed. absurd (let e : status.ReadFault ≡ status.WriteFault = sym fault ∙ is in cc))
+      (λ is. absurd (let e : status.ReadFault ≡ status.OutOfMemory = sym fault ∙ is in cc))
+
+  pub run-write_fault : Ends → answer ≡ status.WriteFault → WritingFailed counts steady before after
+  run-write_fault ends fault = ended ends (WritingFailed counts steady before after)
+      (λ outcome came put kept decided. absurd (subst IsOwn fault (decided-own outcome put decided)))
+      (λ slot near came put kept. absurd (let e : status.WriteFault ≡ status.ReadFault = sym fault ∙ put.stands in cc))
+      (λ is failed. failed)
+      (λ is. absurd (let e : status.WriteFault ≡ status.OutOfMemory = sym fault ∙ is in cc))
+
+  -- no count rose at a status of the command's own
+  pub run-uncounted : Ends → (IsOutsideFault answer → ⊥) → counts after ≡ counts before
+  run-uncounted ends no_fault = ended ends (counts after ≡ counts before)
+      (λ outcome came put kept decided. put.own ∙ ap (λ u. with_unread u (counts before)) decided.readable)
+      (λ slot near came put kept. absurd (no_fault (subst IsOutsideFault (sym put.stands) tt)))
+      (λ is failed. absurd (no_fault (subst IsOutsideFault (sym is) tt)))
+      (λ is. absurd (no_fault (subst IsOutsideFault (sym is) tt)))
+
+  pub run-usage : Ends → answer ≡ status.Usage → IsNothing request
+  run-usage ends usage = ended ends (IsNothing request)
+      (λ outcome came put kept decided. decided.usage (sym put.stands ∙ usage))
+      (λ slot near came put kept. absurd (let e : status.Usage ≡ status.ReadFault = sym usage ∙ put.stands in cc))
+      (λ is failed. absurd (let e : status.Usage ≡ status.WriteFault = sym usage ∙ is in cc))
+      (λ is. absurd (let e : status.Usage ≡ status.OutOfMemory = sym usage ∙ is in cc))
+
+  pub run-closed : Ends → answer ≡ status.Ok → AreClosed (length (outputs_of request)) (seen after)
+  run-closed ends ok = ended ends (AreClosed (length (outputs_of request)) (seen after))
+      (λ outcome came put kept decided. subst (λ n. AreClosed n (seen after)) (decided.written (sym put.stands ∙ ok)) put.closed)
+      (λ slot near came put kept. absurd (let e : status.Ok ≡ status.ReadFault = sym ok ∙ put.stands in cc))
+      (λ is failed. absurd (let e : status.Ok ≡ status.WriteFault = sym ok ∙ is in cc))
+      (λ is. absurd (let e : status.Ok ≡ status.OutOfMemory = sym ok ∙ is in cc))

@@ -1,0 +1,133 @@
+-- What is known of each outcome that a request calls for.
+use Rattle.std.proofs.Common.{◌≡◌, ◌⊎◌, ℕ, ◌≤◌, List, [], ◌∷◌, length, refl, sym, ap, subst, inl, inr, arith}
+use Rattle.std.specs.Prelude.{Some, None, Ok, Err}
+use Rattle.tdm_desk.specs.declared.slots.InSlot.{InSlot}
+use Rattle.tdm_desk.specs.declared.slots.InSlot.TheVariants.{In0, In1}
+use Rattle.tdm_desk.specs.Files.{Bytes}
+use Rattle.tdm_problem.specs.Board.{Board}
+use Rattle.tdm_problem.specs.Routing.{Routing}
+use Rattle.solution_eval.specs.declared.judgement.Verdict.{Verdict}
+use Rattle.solution_eval.specs.declared.judgement.Verdict.TheVariants.{Legal, NotJoined, BadRatio, Overfull}
+use Rattle.bound_cert.specs.Certificate.{Cert}
+use Rattle.cert_checker.specs.declared.answer.CheckAnswer.{CheckAnswer}
+use Rattle.cert_checker.specs.declared.answer.CheckAnswer.TheVariants.{Accepted, Rejected}
+use Rattle.command_run.specs.Slots.{place}
+use Rattle.command_run.specs.Outcome.{Outcome}
+use Rattle.command_run.specs.Inputs.{Content, missing, unread, ByNone}
+use Rattle.command_run.proofs.StatusLaws.{by-input, by-none}
+use Rattle.tdm_cli.specs.declared.status.Status.{Status}
+use Rattle.tdm_cli.specs.declared.status.Status.TheVariants as status
+use Rattle.tdm_cli.specs.Kinds.{faults, boards, solutions, certificates}
+use Rattle.tdm_cli.specs.Request.{Request, route, eval, check, nothing, inputs_of, outputs_of}
+use Rattle.tdm_cli.specs.Reports.{verdict_report, answer_report}
+use Rattle.tdm_cli.specs.Outcomes.{comes_to, refused_words, Routes, is_unconnectable, is_over_limit, is_routed, status_of_verdict, Judges, status_of_answer, Checks, JudgesNext, ChecksNext, CallsFor}
+
+-- the status shows no fault of the outside, nor want of memory
+abbrev pub IsOwn : Status → Type 0
+IsOwn status.ReadFault = ⊥
+IsOwn status.WriteFault = ⊥
+IsOwn status.OutOfMemory = ⊥
+IsOwn _ = Unit {0}
+
+abbrev pub IsNothing : Request → Type 0
+IsNothing nothing = Unit {0}
+IsNothing request = ⊥
+
+-- an input of the request could not be read
+abbrev pub IsUnread : Request → Outcome Status → Type 0
+IsUnread request outcome = (slot : InSlot) × (place slot ≤ length (inputs_of request)) × (outcome ≡ unread faults slot)
+
+-- all inputs that were opened could be read, and the status is the command's own
+pub record IsDecided (request : Request) (outcome : Outcome Status) : Type 0 where
+  pub readable : outcome.unread ≡ None
+  pub opened : outcome.opened ≤ length (inputs_of request)
+  pub reached : outcome.status ≡ status.Ok → length (inputs_of request) ≤ outcome.opened
+  pub own : IsOwn outcome.status
+  pub usage : outcome.status ≡ status.Usage → IsNothing request
+  pub silent : (outcome.status ≡ status.Ok) ⊎ (outcome.texts ≡ [])
+  pub written : outcome.status ≡ status.Ok → length outcome.texts ≡ length (outputs_of request)
+
+abbrev pub IsFair : Request → Outcome Status → Type 0
+IsFair request outcome = IsUnread request outcome ⊎ IsDecided request outcome
+
+-- an outcome that writes nothing
+silent : (request : Request) (opened : ℕ) (s : Status) (report : Bytes) → opened ≤ length (inputs_of request) → (s ≡ status.Ok → length (inputs_of request) ≤ opened) → IsOwn s → (s ≡ status.Usage → IsNothing request) → (s ≡ status.Ok → 0 ≡ length (outputs_of request)) → IsFair request (comes_to opened s report [])
+silent request opened s report near reached own usage written = inr (record {
+  readable = refl;
+  opened = near;
+  reached = reached;
+  own = own;
+  usage = usage;
+  silent = inr refl;
+  written = written;
+})
+
+routes-fair : (board solution cert : Bytes) (rounds : ℕ) (problem : Board) (outcome : Outcome Status) → Routes problem rounds outcome → IsFair (route board solution cert rounds) outcome
+routes-fair board solution cert rounds problem outcome (is_unconnectable nets are some is) =
+    subst (IsFair (route board solution cert rounds)) (sym is) (silent (route board solution cert rounds) 1 status.Unconnectable _ (omega arith) (λ e. cc) tt (λ e. cc) (λ e. cc))
+routes-fair board solution cert rounds problem outcome (is_over_limit over is) =
+    subst (IsFair (route board solution cert rounds)) (sym is) (silent (route board solution cert rounds) 1 status.UseLimit _ (omega arith) (λ e. cc) tt (λ e. cc) (λ e. cc))
+routes-fair board solution cert rounds problem outcome (is_routed routing proof improved is) =
+    subst (IsFair (route board solution cert rounds)) (sym is) (inr (record {
+      readable = refl;
+      opened = omega arith;
+      reached = λ e. omega arith;
+      own = tt;
+      usage = λ e. cc;
+      silent = inl refl;
+      written = λ e. refl;
+    }))
+
+judges-fair : (board solution : Bytes) (problem : Board) (routing : Routing) (outcome : Outcome Status) → Judges problem routing outcome → IsFair (eval board solution) outcome
+judges-fair board solution problem routing outcome judges = subst (IsFair (eval board solution)) (sym judges.is) (by judges.verdict)
+  where
+    by : (verdict : Verdict) → IsFair (eval board solution) (comes_to 2 (status_of_verdict verdict) (verdict_report verdict) [])
+    by (Legal value) = silent (eval board solution) 2 status.Ok _ (omega arith) (λ e. omega arith) tt (λ e. cc) (λ e. refl)
+    by (NotJoined net) = silent (eval board solution) 2 status.Illegal _ (omega arith) (λ e. omega arith) tt (λ e. cc) (λ e. refl)
+    by (BadRatio net wire ratio) = silent (eval board solution) 2 status.Illegal _ (omega arith) (λ e. omega arith) tt (λ e. cc) (λ e. refl)
+    by (Overfull wire) = silent (eval board solution) 2 status.Illegal _ (omega arith) (λ e. omega arith) tt (λ e. cc) (λ e. refl)
+
+checks-fair : (board cert : Bytes) (problem : Board) (proof : Cert) (outcome : Outcome Status) → Checks problem proof outcome → IsFair (check board cert) outcome
+checks-fair board cert problem proof outcome checks = subst (IsFair (check board cert)) (sym checks.is) (by checks.answer)
+  where
+    by : (answer : CheckAnswer) → IsFair (check board cert) (comes_to 2 (status_of_answer answer) (answer_report answer) [])
+    by (Accepted bound) = silent (check board cert) 2 status.Ok _ (omega arith) (λ e. omega arith) tt (λ e. cc) (λ e. refl)
+    by (Rejected pair) = silent (check board cert) 2 status.CertRejected _ (omega arith) (λ e. omega arith) tt (λ e. cc) (λ e. refl)
+
+-- what an input decides by itself is fair of every request that has it
+module _ (request : Request) (slot : InSlot) (near : place slot ≤ length (inputs_of request)) where
+  missing-fair : IsFair request (missing faults slot)
+  missing-fair = silent request (place slot) status.NoInput _ near (λ e. cc) tt (λ e. cc) (λ e. cc)
+
+  unread-fair : IsFair request (unread faults slot)
+  unread-fair = inl (slot, near, refl)
+
+  refused-fair : (s : Status) (report : Bytes) → IsOwn s → (s ≡ status.Usage → ⊥) → (s ≡ status.Ok → ⊥) → IsFair request (comes_to (place slot) s report [])
+  refused-fair s report own usage ok = silent request (place slot) s report near (λ e. absurd (ok e)) own (λ e. absurd (usage e)) (λ e. absurd (ok e))
+
+pub fair : (request : Request) (contents : List Content) (outcome : Outcome Status) → CallsFor request contents outcome → IsFair request outcome
+fair (route board solution cert rounds) = by-input faults In0 boards (λ problem. ByNone (Routes problem rounds)) (λ contents outcome. IsFair (route board solution cert rounds) outcome)
+    (λ rest. missing-fair (route board solution cert rounds) In0 (omega arith)) (λ rest. unread-fair (route board solution cert rounds) In0 (omega arith))
+    (λ bytes refusal rest says. refused-fair (route board solution cert rounds) In0 (omega arith) status.BoardRefused _ tt (λ e. cc) (λ e. cc))
+    (λ bytes problem rest outcome says then. by-none (IsFair (route board solution cert rounds)) (Routes problem rounds) (routes-fair board solution cert rounds problem) rest outcome then)
+fair (eval board solution) = by-input faults In0 boards JudgesNext (λ contents outcome. IsFair (eval board solution) outcome)
+    (λ rest. missing-fair (eval board solution) In0 (omega arith)) (λ rest. unread-fair (eval board solution) In0 (omega arith))
+    (λ bytes refusal rest says. refused-fair (eval board solution) In0 (omega arith) status.BoardRefused _ tt (λ e. cc) (λ e. cc))
+    (λ bytes problem rest outcome says then. next problem rest outcome then)
+  where
+    next : (problem : Board) (contents : List Content) (outcome : Outcome Status) → JudgesNext problem contents outcome → IsFair (eval board solution) outcome
+    next problem = by-input faults In1 (solutions problem) (λ routing. ByNone (Judges problem routing)) (λ contents outcome. IsFair (eval board solution) outcome)
+        (λ rest. missing-fair (eval board solution) In1 (omega arith)) (λ rest. unread-fair (eval board solution) In1 (omega arith))
+        (λ bytes refusal rest says. refused-fair (eval board solution) In1 (omega arith) status.SolutionRefused _ tt (λ e. cc) (λ e. cc))
+        (λ bytes routing rest outcome says then. by-none (IsFair (eval board solution)) (Judges problem routing) (judges-fair board solution problem routing) rest outcome then)
+fair (check board cert) = by-input faults In0 boards ChecksNext (λ contents outcome. IsFair (check board cert) outcome)
+    (λ rest. missing-fair (check board cert) In0 (omega arith)) (λ rest. unread-fair (check board cert) In0 (omega arith))
+    (λ bytes refusal rest says. refused-fair (check board cert) In0 (omega arith) status.BoardRefused _ tt (λ e. cc) (λ e. cc))
+    (λ bytes problem rest outcome says then. next problem rest outcome then)
+  where
+    next : (problem : Board) (contents : List Content) (outcome : Outcome Status) → ChecksNext problem contents outcome → IsFair (check board cert) outcome
+    next problem = by-input faults In1 (certificates problem) (λ proof. ByNone (Checks problem proof)) (λ contents outcome. IsFair (check board cert) outcome)
+        (λ rest. missing-fair (check board cert) In1 (omega arith)) (λ rest. unread-fair (check board cert) In1 (omega arith))
+        (λ bytes refusal rest says. refused-fair (check board cert) In1 (omega arith) status.CertRefused _ tt (λ e. cc) (λ e. cc))
+        (λ bytes proof rest outcome says then. by-none (IsFair (check board cert)) (Checks problem proof) (checks-fair board cert problem proof) rest outcome then)
+fair nothing = by-none (IsFair nothing) (λ outcome. outcome ≡ refused_words) (λ outcome is. subst (IsFair nothing) (sym is) (silent nothing 0 status.Usage _ (omega arith) (λ e. omega arith) tt (λ e. tt) (λ e. cc)))

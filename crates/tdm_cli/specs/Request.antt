@@ -1,0 +1,34 @@
+-- What the words of a command line ask for.
+use Rattle.std.specs.Prelude.{ℕ, List, [], ◌∷◌}
+use Rattle.tdm_desk.specs.Files.{Name}
+use Rattle.command_run.specs.Inputs.{Input}
+use Rattle.tdm_cli.specs.Words.{IsRoute, IsEval, IsCheck, IsCommand}
+use Rattle.tdm_cli.specs.Kinds.{board_input, second_input}
+
+-- a command with the names of its files and its numbers, or none
+pub data Request : Type 0 where
+  route : (board solution cert : Name) (rounds : ℕ) → Request
+  eval : (board solution : Name) → Request
+  check : (board cert : Name) → Request
+  nothing : Request
+
+-- the words ask for it
+abbrev pub Asks : List Name → Request → Type 0
+Asks words (route board solution cert rounds) = IsRoute words board solution cert rounds
+Asks words (eval board solution) = IsEval words board solution
+Asks words (check board cert) = IsCheck words board cert
+Asks words nothing = ¬ IsCommand words
+
+-- its inputs, in order
+abbrev pub inputs_of : Request → List Input
+inputs_of (route board solution cert rounds) = board_input board ∷ []
+inputs_of (eval board solution) = board_input board ∷ second_input solution ∷ []
+inputs_of (check board cert) = board_input board ∷ second_input cert ∷ []
+inputs_of nothing = []
+
+-- the names of its outputs, in order
+abbrev pub outputs_of : Request → List Name
+outputs_of (route board solution cert rounds) = solution ∷ cert ∷ []
+outputs_of (eval board solution) = []
+outputs_of (check board cert) = []
+outputs_of nothing = []

@@ -1,0 +1,103 @@
+//! What the inputs of each command come to.
+ghost use Rattle.std.specs.Prelude.{◌∷◌, []};
+ghost use Rattle.tdm_desk.specs.declared.slots.InSlot.TheVariants.{In0};
+ghost use Rattle.command_run.specs.Inputs.{ByInput, ByNone};
+ghost use Rattle.command_run.specs.Decision.{Decides};
+ghost use Rattle.tdm_cli.specs.Texts.{text_of};
+ghost use Rattle.tdm_cli.specs.Kinds.{faults, boards, board_input, second_input};
+ghost use Rattle.tdm_cli.specs.Outcomes.{Routes, JudgesNext, ChecksNext};
+
+use crate::check::check;
+use crate::eval::eval;
+use crate::reading::{BoardText, CertText, SolutionText};
+use crate::route::route;
+use crate::status::Status;
+use crate::writing::Output;
+use command_run::{Decision, decided, read_input};
+use std::alloc::Global;
+use tdm_desk::{Desk, InSlot};
+use tdm_problem::Problem;
+
+/// Reads the board, and routes its nets by so many rounds.
+pub fn decide_route<D: Desk>(
+    alloc: Global,
+    desk: &mut D,
+    board: &str,
+    rounds: u32,
+) -> Decision<Status, Output>
+    ensures { Decides D.counts D.steady D.seen text_of faults 0 (board_input board.now ∷ [])
+        (ByInput faults In0 boards (λ problem. ByNone (Routes problem rounds))) desk.old desk.new result }
+{
+    match read_input(alloc, desk, InSlot::In0, board, BoardText::new(alloc)) {
+        Ok(problem) => decided(route(alloc, &problem, rounds)),
+        Err(decision) => decision,
+    }
+}
+
+/// Reads the solution for the problem, and judges it.
+fn decide_judging<D: Desk>(
+    alloc: Global,
+    desk: &mut D,
+    problem: &Problem,
+    solution: &str,
+) -> Decision<Status, Output>
+    ensures { Decides D.counts D.steady D.seen text_of faults 1 (second_input solution.now ∷ [])
+        (JudgesNext problem.now) desk.old desk.new result }
+{
+    let reader = SolutionText::new(alloc, problem);
+    match read_input(alloc, desk, InSlot::In1, solution, reader) {
+        Ok(routing) => decided(eval(alloc, problem, &routing)),
+        Err(decision) => decision,
+    }
+}
+
+/// Reads the board and the solution, and judges the solution.
+pub fn decide_eval<D: Desk>(
+    alloc: Global,
+    desk: &mut D,
+    board: &str,
+    solution: &str,
+) -> Decision<Status, Output>
+    ensures { Decides D.counts D.steady D.seen text_of faults 0
+        (board_input board.now ∷ second_input solution.now ∷ [])
+        (ByInput faults In0 boards JudgesNext) desk.old desk.new result }
+{
+    match read_input(alloc, desk, InSlot::In0, board, BoardText::new(alloc)) {
+        Ok(problem) => decide_judging(alloc, desk, &problem, solution),
+        Err(decision) => decision,
+    }
+}
+
+/// Reads the certificate for the problem, and checks it.
+fn decide_checking<D: Desk>(
+    alloc: Global,
+    desk: &mut D,
+    problem: &Problem,
+    cert: &str,
+) -> Decision<Status, Output>
+    ensures { Decides D.counts D.steady D.seen text_of faults 1 (second_input cert.now ∷ [])
+        (ChecksNext problem.now) desk.old desk.new result }
+{
+    let reader = CertText::new(alloc, problem);
+    match read_input(alloc, desk, InSlot::In1, cert, reader) {
+        Ok(cert) => decided(check(alloc, problem, &cert)),
+        Err(decision) => decision,
+    }
+}
+
+/// Reads the board and the certificate, and checks the certificate.
+pub fn decide_check<D: Desk>(
+    alloc: Global,
+    desk: &mut D,
+    board: &str,
+    cert: &str,
+) -> Decision<Status, Output>
+    ensures { Decides D.counts D.steady D.seen text_of faults 0
+        (board_input board.now ∷ second_input cert.now ∷ [])
+        (ByInput faults In0 boards ChecksNext) desk.old desk.new result }
+{
+    match read_input(alloc, desk, InSlot::In0, board, BoardText::new(alloc)) {
+        Ok(problem) => decide_checking(alloc, desk, &problem, cert),
+        Err(decision) => decision,
+    }
+}
