@@ -8,3 +8,4 @@ pub mod Bounding
 pub mod Starts
 pub mod Reaching
 pub mod Scaling
+pub mod Crossing

@@ -2,3 +2,4 @@ pub mod Turns
 pub mod Rerouting
 pub mod Working
 pub mod Bounds
+pub mod Samples

@@ -2,6 +2,8 @@
 //! where that makes the cost of the loads smaller.
 #![tactic(auto)]
 
+#[cfg(test)]
+mod definitions;
 mod effort;
 mod growing;
 mod loads;
