@@ -33,3 +33,6 @@ pub mod WeightedCerts
 pub mod Accepted
 pub mod RoleLaws
 pub mod FloorLaws
+pub mod Nearer
+pub mod GrowthLaws
+pub mod OneGrowth

@@ -16,3 +16,4 @@ pub mod Floors
 pub mod Makers
 pub mod Scaling
 pub mod Weighted
+pub mod Growth

@@ -1,5 +1,6 @@
 //! Laws on certificates and their bounds, which hold by the definitions alone.
 ghost use Rattle.bound_cert.specs.Laws.{SpreadLaw, LeastEvenLaw, DualBoundLaw};
+ghost use Rattle.bound_cert.specs.Growth.{GrowthLaw, OneGrowthLaw};
 
 /// Where a potential rises along no wire, either way, by more than the wire's length, wires that join FPGAs
 /// are together at least as long as the potential's largest value at these less its least.
@@ -16,4 +17,12 @@ pub fn bound_is_least()
 /// The dual bound: no legal solution has a value below the bound of a valid certificate, of either kind.
 pub fn dual_bound()
     ensures { DualBoundLaw }
+{}
+
+/// What joins FPGAs is at least as long as these grow: each in turn, but the first, until it reaches one that has not
+/// grown, over what the others have left of each wire's length in each direction. Source: the ascent on directed cuts
+/// (Wong, 1984). They grow by one number alone.
+pub fn growth_is_short()
+    ensures short { GrowthLaw }
+    ensures one { OneGrowthLaw }
 {}

@@ -12,7 +12,7 @@ use Rattle.shortest_forest.proofs.WayLaws.{way_back-source}
 
 module _ (board : Board) (arcs : Arcs) where
   -- a walk goes on by one wire
-  arc_walk-on : (a : ℕ) (es : List ℕ) (b total e c : ℕ) → IsArcWalk board arcs a es b total → Links board e b c → IsArcWalk board arcs a (es ++ e ∷ []) c (total + arcs e b c)
+  pub arc_walk-on : (a : ℕ) (es : List ℕ) (b total e c : ℕ) → IsArcWalk board arcs a es b total → Links board e b c → IsArcWalk board arcs a (es ++ e ∷ []) c (total + arcs e b c)
   arc_walk-on a [] b total e c walk links =
       let P : ℕ → Type 0 = λ x. IsArcWalk board arcs x (e ∷ []) c (total + arcs e b c) in
       let one : IsArcWalk board arcs b (e ∷ []) c (total + arcs e b c) = (c, links, (0, (refl, refl), omega (arith, walk.1))) in
