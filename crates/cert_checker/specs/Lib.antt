@@ -1,3 +1,4 @@
 pub mod Steep
 pub mod NetWeights
 pub mod Answer
+pub mod Growing

@@ -6,6 +6,7 @@ mod answer;
 mod bound;
 #[cfg(test)]
 mod definitions;
+mod growth;
 mod net_weights;
 mod spread;
 mod steep;
