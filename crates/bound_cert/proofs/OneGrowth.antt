@@ -9,10 +9,10 @@ use Rattle.bound_cert.specs.Growth.{IsReach, IsHeight, worn, GrowOver, IsGrowth,
 
 module _ (board : Board) where
   -- the rests are the same along each wire
-  abbrev Agree : Arcs → Arcs → Type 0
+  abbrev pub Agree : Arcs → Arcs → Type 0
   Agree rests other = (e v u : ℕ) → Links board e v u → rests e v u ≡ other e v u
 
-  walk-agree : (rests other : Arcs) → Agree rests other → (a : ℕ) (es : List ℕ) (b total : ℕ) → IsArcWalk board rests a es b total → IsArcWalk board other a es b total
+  pub walk-agree : (rests other : Arcs) → Agree rests other → (a : ℕ) (es : List ℕ) (b total : ℕ) → IsArcWalk board rests a es b total → IsArcWalk board other a es b total
   walk-agree rests other agree a [] b total walk = walk
   walk-agree rests other agree a (e ∷ es) b total walk =
       (walk.0, walk.1, (walk.2.0, walk-agree rests other agree walk.0 es b walk.2.0 walk.2.1, omega (arith, walk.2.2, agree e a walk.0 walk.1)))
@@ -28,7 +28,7 @@ module _ (board : Board) where
       go (inl low) = omega (arith, low)
       go (inr (es, (total, walk, at))) = omega (arith, at, high.enough es total (walk-agree rests other agree x es f total walk))
 
-  agree-back : (rests other : Arcs) → Agree rests other → Agree other rests
+  pub agree-back : (rests other : Arcs) → Agree rests other → Agree other rests
   agree-back rests other agree e v u links = sym (agree e v u links)
 
   one-over : (root : ℕ) (growing : List ℕ) (rests other : Arcs) → Agree rests other → (growth more : ℕ) → GrowOver board root growing rests growth → GrowOver board root growing other more → growth ≡ more

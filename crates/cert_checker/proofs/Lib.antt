@@ -6,3 +6,4 @@ pub mod AnswerLaws
 pub mod Rests
 pub mod Reached
 pub mod Wearing
+pub mod GrowingLaws

@@ -1,11 +1,16 @@
 -- How FPGAs grow over what is left of the lengths of wires.
-use Rattle.std.specs.Prelude.{◌≡◌, ◌≢◌, ℕ, ◌+◌, ◌-◌, ◌*◌, ◌^◌, ◌<◌, ◌≤◌, ◌⊎◌, ◌↔◌, nat_lt, if◌then◌else◌, Bool, List, [], ◌∷◌, length, drop, slice_index, Option, Some, None, Contains}
+use Rattle.std.specs.Prelude.{◌≡◌, ◌≢◌, ℕ, ◌+◌, ◌-◌, ◌*◌, ◌^◌, ◌<◌, ◌≤◌, ◌⊎◌, ◌↔◌, nat_lt, if◌then◌else◌, Bool, List, [], ◌∷◌, length, drop, slice_index, Option, Some, None, Contains, All}
 use Rattle.tdm_problem.specs.Board.{Board}
 use Rattle.tdm_problem.specs.Walk.{Links, IsWalk, AnyWire}
 use Rattle.shortest_forest.specs.declared.label.Label.{Label}
 use Rattle.shortest_forest.specs.Arcs.{Arcs, IsGoal}
 use Rattle.shortest_forest.specs.Labels.{Labels, label_at}
 use Rattle.bound_cert.specs.Growth.{IsReach, IsHeight, worn, GrowOver}
+
+-- how many FPGAs there are, and the lengths of the wires
+pub record Lengths : Type 0 where
+  pub fpgas : ℕ
+  pub lengths : List ℕ
 
 -- the rests of arcs: those of the wires on the way to the end of the greater number, and on the way back
 abbrev pub arcs_of : (up down : List ℕ) → Arcs
@@ -52,6 +57,7 @@ pub record IsTakenOff (e from to fall : ℕ) (old new : Arcs) : Type 0 where
 pub record AreListed (lengths up down listed : List ℕ) : Type 0 where
   pub up_count : length up ≡ length lengths
   pub down_count : length down ≡ length lengths
+  pub there : All (λ e. e < length lengths) listed
   pub up_short : (e : ℕ) → slice_index up e ≤ slice_index lengths e
   pub down_short : (e : ℕ) → slice_index down e ≤ slice_index lengths e
   pub whole : (e : ℕ) → ((slice_index up e ≡ slice_index lengths e) × (slice_index down e ≡ slice_index lengths e))

@@ -1,16 +1,139 @@
 //! How far FPGAs grow towards one another over wires with lengths.
 ghost use Rattle.std.specs.Prelude.{◌≡◌, ◌≢◌, ◌+◌, ◌*◌, ◌^◌, ◌<◌, ◌≤◌, ◌⊎◌, ℕ, List, [], ◌∷◌, ◌++◌, length, slice_index, nat_lt, All, AllPairs, Contains, IfOk, IfSome, IfNone, OnOk};
-ghost use Rattle.tdm_problem.specs.Board.{Board};
 ghost use Rattle.tdm_problem.specs.Walk.{IsConnectable};
 ghost use Rattle.board_graph.specs.Graph.{board_of, IsGraph};
-ghost use Rattle.shortest_forest.specs.Labels.{Labels};
+ghost use Rattle.shortest_forest.specs.Arcs.{IsGoal};
+ghost use Rattle.steiner_build.specs.Joining.{HasNoGoals};
 ghost use Rattle.bound_cert.specs.Growth.{GrowOver, IsGrowth};
 ghost use Rattle.bound_cert.specs.Limits.{most_length};
-ghost use Rattle.cert_checker.specs.Growing.{arcs_of, height_in, AreGoals, HasReached, ReachesNone, IsWornAt, IsWorn, IsTakenOff, StaysListed};
+ghost use Rattle.cert_checker.specs.Growing.{arcs_of, height_in, AreGoals, HasReached, ReachesNone, IsWornAt, IsWorn, IsTakenOff, AreListed, StaysListed};
 
 use board_graph::BoardGraph;
 use shortest_forest::{ArcLengths, MOST_CAP, NoBound, Search, nearest_goal};
-use std::alloc::AllocError;
+use std::alloc::{AllocError, Global};
+use std::marker::Model;
+
+/// Grows sets of FPGAs towards one another over the same lengths of wires, one set after another. It is made once, and
+/// its memory serves every set: a call allocates only where its lists are longer than ever before.
+#[derive(Drop)]
+pub struct Grower {
+    search: Search,
+    lengths: Vec<u64>,
+    up: Vec<u64>,
+    down: Vec<u64>,
+    worn: Vec<u32>,
+}
+
+impl Model for Grower {
+    ghost use Rattle.std.specs.Prelude.{◌≡◌, ◌≤◌, length, slice_index, [], ℕ};
+    ghost use Rattle.steiner_build.specs.Joining.{HasNoGoals};
+    ghost use Rattle.bound_cert.specs.Limits.{most_length};
+    ghost use Rattle.cert_checker.specs.Growing.{Lengths};
+
+    ghost Value = { Lengths };
+
+    ghost view = { λ g. record { fpgas = length g.search.labels; lengths = g.lengths.items } };
+
+    ghost invariant = { λ g. HasNoGoals g.search.goals × (length g.search.goals ≡ length g.search.labels)
+        × (g.up.items ≡ g.lengths.items) × (g.down.items ≡ g.lengths.items) × (g.worn.items ≡ [])
+        × ((e : ℕ) → slice_index g.lengths.items e ≤ most_length) };
+}
+
+impl Grower {
+    /// Made for a graph and the length of each of its wires, at most 2^48.
+    pub fn new(alloc: Global, graph: &BoardGraph, lengths: &[u64]) -> Result<Grower, AllocError>
+        requires count { length lengths.now ≡ length graph.now.wires }
+        requires small { All (λ l. l ≤ most_length) lengths.now }
+        ensures fpgas { IfOk result (λ grower. grower.fpgas ≡ graph.now.fpgas) }
+        ensures lengths { IfOk result (λ grower. grower.lengths ≡ lengths.now) }
+    {
+        let search = Search::new(alloc, graph)?;
+        let up = lengths.to_vec(alloc)?;
+        let down = lengths.to_vec(alloc)?;
+        let lengths = lengths.to_vec(alloc)?;
+        Ok(Grower {
+            search,
+            lengths,
+            up,
+            down,
+            worn: Vec::new(alloc),
+        })
+    }
+
+    /// How far these FPGAs of the graph, all different, grow: the first is the root, and the others grow in order,
+    /// each until it reaches the root or one that is still to grow, over what those before it left of each wire in
+    /// each direction. 0 where wires do not join them all. The only error is want of memory; the grower may be used
+    /// again then too.
+    pub fn growth(&mut self, graph: &BoardGraph, fpgas: &[u32]) -> Result<u128, AllocError>
+        requires graph { self.old.fpgas ≡ graph.now.fpgas }
+        requires lengths { length self.old.lengths ≡ length graph.now.wires }
+        requires there { All (λ f. f < graph.now.fpgas) fpgas.now }
+        requires distinct { AllPairs (λ x y. x ≢ y) fpgas.now }
+        ensures same { self.new ≡ self.old }
+        ensures growth { IfOk result (IsGrowth (board_of graph.now) (slice_index self.old.lengths) fpgas.now) }
+    {
+        let Some((root, growing)) = fpgas.split_first() else {
+            return Ok(0);
+        };
+        let _fpgas = graph.fpgas();
+        mark(&mut self.search, fpgas);
+        let grown = grow_all(
+            &mut self.search,
+            graph,
+            &mut self.up,
+            &mut self.down,
+            &mut self.worn,
+            *root,
+            growing,
+        );
+        unmark(&mut self.search, fpgas);
+        restore(&self.lengths, &mut self.up, &mut self.down, &self.worn);
+        self.worn.clear();
+        grown
+    }
+}
+
+/// Begins a search whose goals are these FPGAs.
+fn mark(search: &mut Search, fpgas: &[u32])
+    requires there { All (λ f. f < length search.old.goals) fpgas.now }
+    requires count { length search.old.labels ≡ length search.old.goals }
+    requires distinct { AllPairs (λ x y. x ≢ y) fpgas.now }
+    requires none { HasNoGoals search.old.goals }
+    ensures goals { AreGoals fpgas.now search.new.goals }
+    ensures count { length search.new.goals ≡ length search.old.goals }
+    ensures labels { length search.new.labels ≡ length search.old.labels }
+{
+    search.begin();
+    for f in fpgas {
+        search.add_goal(*f);
+    }
+}
+
+/// Takes the goals away, which are some of these FPGAs.
+fn unmark(search: &mut Search, fpgas: &[u32])
+    requires there { All (λ f. f < length search.old.goals) fpgas.now }
+    requires goals { (f : ℕ) → IsGoal search.old.goals f → Contains fpgas.now f }
+    ensures none { HasNoGoals search.new.goals }
+    ensures count { length search.new.goals ≡ length search.old.goals }
+    ensures labels { length search.new.labels ≡ length search.old.labels }
+{
+    for f in fpgas {
+        search.remove_goal(*f);
+    }
+}
+
+/// Gives the listed wires their whole lengths again.
+fn restore(lengths: &[u64], up: &mut Vec<u64>, down: &mut Vec<u64>, worn: &[u32])
+    requires listed { AreListed lengths.now up.old.items down.old.items worn.now }
+    ensures up { up.new.items ≡ lengths.now }
+    ensures down { down.new.items ≡ lengths.now }
+{
+    for e in worn {
+        let e = *e as usize;
+        up[e] = lengths[e];
+        down[e] = lengths[e];
+    }
+}
 
 /// What is left of the lengths of wires, on the way to the end of the greater number and on the way back.
 #[derive(Drop)]
@@ -49,14 +172,14 @@ fn height(search: &Search, reach: u64, f: u32) -> u64
 }
 
 /// Takes a fall from what is left of a wire on the way from one of its ends to the other.
-fn take_off(up: &mut [u64], down: &mut [u64], wire: u32, from: u32, to: u32, fall: u64)
-    requires up { wire < length up.old }
-    requires down { wire < length down.old }
+fn take_off(up: &mut Vec<u64>, down: &mut Vec<u64>, wire: u32, from: u32, to: u32, fall: u64)
+    requires up { wire < length up.old.items }
+    requires down { wire < length down.old.items }
     requires differ { from ≢ to }
-    ensures taken { IsTakenOff wire from to fall (arcs_of up.old down.old) (arcs_of up.new down.new) }
-    ensures up { length up.new ≡ length up.old }
-    ensures down { length down.new ≡ length down.old }
-    ensures listed { (worn : List ℕ) → Contains worn wire → StaysListed up.old down.old worn up.new down.new worn }
+    ensures taken { IsTakenOff wire from to fall (arcs_of up.old.items down.old.items) (arcs_of up.new.items down.new.items) }
+    ensures up { length up.new.items ≡ length up.old.items }
+    ensures down { length down.new.items ≡ length down.old.items }
+    ensures listed { (worn : List ℕ) → Contains worn wire → StaysListed up.old.items down.old.items worn up.new.items down.new.items worn }
 {
     let e = wire as usize;
     if from < to {
@@ -72,20 +195,20 @@ fn wear_at(
     graph: &BoardGraph,
     reach: u64,
     f: u32,
-    up: &mut [u64],
-    down: &mut [u64],
+    up: &mut Vec<u64>,
+    down: &mut Vec<u64>,
     worn: &mut Vec<u32>,
 ) -> Result<(), AllocError>
     requires graph { IsGraph graph.now }
     requires there { f < graph.now.fpgas }
     requires labels { length search.now.labels ≡ graph.now.fpgas }
-    requires up { length up.old ≡ length graph.now.wires }
-    requires down { length down.old ≡ length graph.now.wires }
+    requires up { length up.old.items ≡ length graph.now.wires }
+    requires down { length down.old.items ≡ length graph.now.wires }
     ensures worn { OnOk result (IsWornAt (board_of graph.now) (height_in search.now reach) f
-        (arcs_of up.old down.old) (arcs_of up.new down.new)) }
-    ensures up { length up.new ≡ length up.old }
-    ensures down { length down.new ≡ length down.old }
-    ensures listed { StaysListed up.old down.old worn.old.items up.new down.new worn.new.items }
+        (arcs_of up.old.items down.old.items) (arcs_of up.new.items down.new.items)) }
+    ensures up { length up.new.items ≡ length up.old.items }
+    ensures down { length down.new.items ≡ length down.old.items }
+    ensures listed { StaysListed up.old.items down.old.items worn.old.items up.new.items down.new.items worn.new.items }
 {
     let here = height(search, reach, f);
     for x in graph.neighbours(f) {
@@ -101,19 +224,19 @@ fn wear(
     search: &Search,
     graph: &BoardGraph,
     reach: u64,
-    up: &mut [u64],
-    down: &mut [u64],
+    up: &mut Vec<u64>,
+    down: &mut Vec<u64>,
     worn: &mut Vec<u32>,
 ) -> Result<(), AllocError>
     requires graph { IsGraph graph.now }
     requires labels { length search.now.labels ≡ graph.now.fpgas }
-    requires up { length up.old ≡ length graph.now.wires }
-    requires down { length down.old ≡ length graph.now.wires }
+    requires up { length up.old.items ≡ length graph.now.wires }
+    requires down { length down.old.items ≡ length graph.now.wires }
     ensures worn { OnOk result (IsWorn (board_of graph.now) (height_in search.now reach)
-        (arcs_of up.old down.old) (arcs_of up.new down.new)) }
-    ensures up { length up.new ≡ length up.old }
-    ensures down { length down.new ≡ length down.old }
-    ensures listed { StaysListed up.old down.old worn.old.items up.new down.new worn.new.items }
+        (arcs_of up.old.items down.old.items) (arcs_of up.new.items down.new.items)) }
+    ensures up { length up.new.items ≡ length up.old.items }
+    ensures down { length down.new.items ≡ length down.old.items }
+    ensures listed { StaysListed up.old.items down.old.items worn.old.items up.new.items down.new.items worn.new.items }
 {
     for f in 0..graph.fpgas() {
         if height(search, reach, f) == 0 {
@@ -145,6 +268,7 @@ fn reach_from(
     ensures goals { search.new.goals ≡ search.old.goals }
     ensures reached { IfOk result (λ found. IfSome found
         (HasReached (board_of graph.now) (arcs_of up.now down.now) x search.new)) }
+    ensures small { IfOk result (λ found. IfSome found (λ reach. reach < 2 ^ 64)) }
     ensures none { IfOk result (λ found. IfNone found (ReachesNone (board_of graph.now) x search.new)) }
 {
     search.begin();
@@ -161,8 +285,8 @@ fn reach_from(
 fn grow_all(
     search: &mut Search,
     graph: &BoardGraph,
-    up: &mut [u64],
-    down: &mut [u64],
+    up: &mut Vec<u64>,
+    down: &mut Vec<u64>,
     worn: &mut Vec<u32>,
     root: u32,
     growing: &[u32],
@@ -170,20 +294,21 @@ fn grow_all(
     requires graph { IsGraph graph.now }
     requires labels { length search.old.labels ≡ graph.now.fpgas }
     requires goals { length search.old.goals ≡ graph.now.fpgas }
-    requires up { length up.old ≡ length graph.now.wires }
-    requires down { length down.old ≡ length graph.now.wires }
-    requires up_small { (e : ℕ) → slice_index up.old e ≤ 2 ^ 51 }
-    requires down_small { (e : ℕ) → slice_index down.old e ≤ 2 ^ 51 }
+    requires up { length up.old.items ≡ length graph.now.wires }
+    requires down { length down.old.items ≡ length graph.now.wires }
+    requires listed { (lengths : List ℕ) × AreListed lengths up.old.items down.old.items worn.old.items
+        × ((e : ℕ) → slice_index lengths e ≤ 2 ^ 51) }
     requires there { All (λ f. f < graph.now.fpgas) growing.now }
     requires distinct { AllPairs (λ x y. x ≢ y) (root ∷ growing.now) }
     requires marked { AreGoals (root ∷ growing.now) search.old.goals }
     ensures labels { length search.new.labels ≡ length search.old.labels }
     ensures goals { length search.new.goals ≡ length search.old.goals }
-    ensures growth { IfOk result (λ growth. (GrowOver (board_of graph.now) root growing.now (arcs_of up.old down.old) growth)
+    ensures among { (f : ℕ) → IsGoal search.new.goals f → Contains (root ∷ growing.now) f }
+    ensures growth { IfOk result (λ growth. (GrowOver (board_of graph.now) root growing.now (arcs_of up.old.items down.old.items) growth)
         ⊎ ((growth ≡ 0) × ¬ IsConnectable (board_of graph.now) (root ∷ growing.now))) }
-    ensures up { length up.new ≡ length up.old }
-    ensures down { length down.new ≡ length down.old }
-    ensures listed { StaysListed up.old down.old worn.old.items up.new down.new worn.new.items }
+    ensures up { length up.new.items ≡ length up.old.items }
+    ensures down { length down.new.items ≡ length down.old.items }
+    ensures listed { StaysListed up.old.items down.old.items worn.old.items up.new.items down.new.items worn.new.items }
 {
     let mut growth = 0;
     for i in 0..growing.len() {
@@ -193,9 +318,10 @@ fn grow_all(
             return Ok(0);
         };
         growth += u128::from(reach);
-        if i + 1 < growing.len() {
-            wear(search, graph, reach, up, down, worn)?;
+        if i + 1 == growing.len() {
+            return Ok(growth);
         }
+        wear(search, graph, reach, up, down, worn)?;
     }
     Ok(growth)
 }

@@ -12,6 +12,7 @@ mod spread;
 mod steep;
 
 pub use answer::{CheckAnswer, check};
+pub use growth::Grower;
 pub use steep::{Steep, first_steep};
 
 #[cfg(test)]

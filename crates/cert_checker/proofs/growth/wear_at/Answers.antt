@@ -35,19 +35,19 @@ loop-x-preserved c =
     let row = c.neighbours-x-items.result.now in
     let x = get_or row k nowhere in
     let heights = height_in c.args.search.now c.args.reach in
-    let mid = arcs_of c.loop-x.up c.loop-x.down in
-    let new = arcs_of c.take_off.new.up c.take_off.new.down in
+    let mid = arcs_of c.loop-x.up.items c.loop-x.down.items in
+    let new = arcs_of c.take_off.new.up.items c.take_off.new.down.items in
     let fall : c.saturating_sub.result ≡ heights c.args.f - heights x.fpga = omega (arith, c.saturating_sub.ensures, c.height-here.ensures, c.height-there.ensures) in
     let taken : IsTakenOff x.wire c.args.f x.fpga (heights c.args.f - heights x.fpga) mid new =
     subst (λ (n : ℕ). IsTakenOff x.wire c.args.f x.fpga n mid new) fall c.take_off.ensures.taken in
     let listed : List ℕ = c.loop-x.worn.items ++ x.wire ∷ [] in (
-      IsWearing-more graph c.args.f heights k (arcs_of c.args.up.now c.args.down.now) mid new x (omega (arith, c.loop-x-test.true, ap length c.neighbours-x-items.ensures.exact)) (ap (λ (xs : List Neighbour). get_or xs k nowhere) (sym c.neighbours-x-items.ensures.exact)) c.loop-x.invariant.0 taken,
+      IsWearing-more graph c.args.f heights k (arcs_of c.args.up.now.items c.args.down.now.items) mid new x (omega (arith, c.loop-x-test.true, ap length c.neighbours-x-items.ensures.exact)) (ap (λ (xs : List Neighbour). get_or xs k nowhere) (sym c.neighbours-x-items.ensures.exact)) c.loop-x.invariant.0 taken,
       c.take_off.ensures.up ∙ c.loop-x.invariant.1,
       c.take_off.ensures.down ∙ c.loop-x.invariant.2,
-      λ lengths are. subst (λ (xs : List ℕ). AreListed lengths c.take_off.new.up c.take_off.new.down xs) (sym c.in_ok-push.ensures.items)
-          (c.take_off.ensures.listed listed (Contains-push c.loop-x.worn.items x.wire) lengths (listed-more lengths c.loop-x.up c.loop-x.down c.loop-x.worn.items x.wire (c.loop-x.invariant.3 lengths are))),
+      λ lengths are. subst (λ (xs : List ℕ). AreListed lengths c.take_off.new.up.items c.take_off.new.down.items xs) (sym c.in_ok-push.ensures.items)
+          (c.take_off.ensures.listed listed (Contains-push c.loop-x.worn.items x.wire) lengths (listed-more lengths c.loop-x.up.items c.loop-x.down.items c.loop-x.worn.items x.wire (let links = neighbour-links c.args.graph.now c.args.f c.loop-x.x-index c.neighbours-x-items.result.now c.neighbours-x-items.ensures.exact (omega (arith, c.loop-x-test.true)) in omega (arith, AnyWire-from_links (board_of c.args.graph.now) _ _ _ links, c.requires.up, c.loop-x.invariant.1)) (c.loop-x.invariant.3 lengths are))),
     )
 
 pub returns-clause-worn : goal.returns-clause-worn
-returns-clause-worn c = IsWornAt-all c.args.graph.now c.args.f (height_in c.args.search.now c.args.reach) c.loop-x.x-index (arcs_of c.args.up.now c.args.down.now) (arcs_of c.loop-x.up c.loop-x.down)
+returns-clause-worn c = IsWornAt-all c.args.graph.now c.args.f (height_in c.args.search.now c.args.reach) c.loop-x.x-index (arcs_of c.args.up.now.items c.args.down.now.items) (arcs_of c.loop-x.up.items c.loop-x.down.items)
     (omega (arith, c.loop-x-test.false, ap length c.neighbours-x-items.ensures.exact)) c.loop-x.invariant.0

@@ -4,6 +4,6 @@ use Rattle.cert_checker.proofs.Wearing.{IsWearing}
 use Rattle.cert_checker.proofs.growth.wear_at.Given as goal
 
 abbrev pub invariant-loop-x : goal.invariant-loop-x
-invariant-loop-x l = IsWearing l.graph l.f (height_in l.search l.reach) l.x-index (arcs_of l.fn.up l.fn.down) (arcs_of l.up l.down)
-    × (length l.up ≡ length l.fn.up) × (length l.down ≡ length l.fn.down)
-    × StaysListed l.fn.up l.fn.down l.fn.worn.items l.up l.down l.worn.items
+invariant-loop-x l = IsWearing l.graph l.f (height_in l.search l.reach) l.x-index (arcs_of l.fn.up.items l.fn.down.items) (arcs_of l.up.items l.down.items)
+    × (length l.up.items ≡ length l.fn.up.items) × (length l.down.items ≡ length l.fn.down.items)
+    × StaysListed l.fn.up.items l.fn.down.items l.fn.worn.items l.up.items l.down.items l.worn.items
