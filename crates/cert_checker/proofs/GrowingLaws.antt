@@ -1,15 +1,15 @@
 -- How FPGAs grow, one after another.
-use Rattle.std.proofs.Common.{◌≡◌, ◌≢◌, ℕ, zero, suc, ◌+◌, ◌-◌, ◌*◌, ◌^◌, ◌<◌, ◌≤◌, ◌⊎◌, Bool, true, false, cond, List, [], ◌∷◌, length, drop, get_or, set, get_or-set_same, get_or-set_other, refl, sym, ap, ◌∙◌, subst, inl, inr, ⊎_elim, arith}
+use Rattle.std.proofs.Common.{◌≡◌, ◌≢◌, ℕ, zero, suc, ◌+◌, ◌^◌, ◌<◌, ◌≤◌, ◌⊎◌, Bool, true, false, cond, List, [], ◌∷◌, length, drop, get_or, set, get_or-set_same, get_or-set_other, refl, sym, ap, ◌∙◌, subst, inl, inr, ⊎_elim, arith}
 use Rattle.std.specs.Prelude.{AllPairs, Contains, ◌↔◌, slice_index, nat_lt, IfOk, Result, Ok, Err}
 use Rattle.std.specs.declared.alloc.AllocError.{AllocError}
 use Rattle.std.proofs.lemmas.Bool.{cases_eq, cases_lt, false≢true}
 use Rattle.std.proofs.lemmas.List.{get_or_past, get_or_default, get_or-drop, drop_more, length-drop, length-set}
 use Rattle.std.proofs.Math.ListN.{drop_of_length-le}
 use Rattle.tdm_problem.specs.Board.{Board}
-use Rattle.tdm_problem.specs.Walk.{Links, IsConnectable}
-use Rattle.shortest_forest.specs.Arcs.{Arcs, IsArcWalk, IsGoal, both_ways}
+use Rattle.tdm_problem.specs.Walk.{IsConnectable}
+use Rattle.shortest_forest.specs.Arcs.{Arcs, IsGoal, both_ways}
 use Rattle.shortest_forest.specs.Labels.{Labels}
-use Rattle.bound_cert.specs.Growth.{IsReach, IsHeight, worn, GrowOver, IsGrowth}
+use Rattle.bound_cert.specs.Growth.{worn, GrowOver, IsGrowth}
 use Rattle.bound_cert.proofs.OneGrowth.{Agree, walk-agree, agree-back}
 use Rattle.cert_checker.specs.Growing.{arcs_of, height_in, AreGoals, HasReached, IsWorn, IsGrowing, ReachesNone}
 

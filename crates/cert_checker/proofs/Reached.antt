@@ -1,18 +1,17 @@
 -- What a search over what is left of the wires says of reach and heights.
-use Rattle.std.proofs.Common.{◌≡◌, ℕ, suc, ◌+◌, ◌-◌, ◌*◌, ◌^◌, ◌<◌, ◌≤◌, ◌⊎◌, List, [], ◌∷◌, Option, None, Some, length, refl, sym, ap, ◌∙◌, subst, inl, inr, ⊎_elim, arith}
-use Rattle.std.specs.Prelude.{Contains, reverse}
+use Rattle.std.proofs.Common.{◌≡◌, ℕ, ◌+◌, ◌-◌, ◌*◌, ◌^◌, ◌<◌, ◌≤◌, ◌⊎◌, List, [], ◌∷◌, Option, None, Some, length, refl, ap, subst, inl, inr, ⊎_elim, arith}
+use Rattle.std.specs.Prelude.{reverse}
 use Rattle.std.proofs.lemmas.Bool.{cases_lt}
 use Rattle.tdm_problem.specs.Board.{Board}
 use Rattle.tdm_problem.specs.Walk.{Links, IsWalk, AnyWire}
 use Rattle.shortest_forest.specs.declared.label.Label.{Label}
 use Rattle.shortest_forest.specs.Arcs.{Arcs, IsArcWalk, IsGoal}
-use Rattle.shortest_forest.specs.Labels.{Labels, label_at, IsAtLabel, IsSource, IsWaiting, IsWaitingOrSettled, IsNoShorter, IsWayBack, IsUnderWay, IsNearest, AreFar}
+use Rattle.shortest_forest.specs.Labels.{Labels, label_at, IsAtLabel, IsSource, IsWaiting, IsWaitingOrSettled, IsNoShorter, IsUnderWay, IsNearest, AreFar}
 use Rattle.shortest_forest.proofs.ArcWays.{way-law, nearest-way-law}
 use Rattle.shortest_forest.proofs.WayLaws.{way_back-source}
 use Rattle.steiner_build.proofs.LengthLaws.{walk-few}
 use Rattle.steiner_build.specs.Laws.{StaysInside}
-use Rattle.bound_cert.specs.Growth.{IsReach, IsHeight}
-use Rattle.cert_checker.specs.Growing.{height_of, height_in, AreGoals, HasReached, ReachesNone}
+use Rattle.cert_checker.specs.Growing.{height_of, height_in, HasReached, ReachesNone}
 
 module _ (board : Board) (arcs : Arcs) (cap x : ℕ) (s : Labels) (search : IsUnderWay board arcs (λ _. 0) cap s) (root : IsSource s x) (only : (f : ℕ) → IsSource s f → f ≡ x) where
   -- along walks no height is too small

@@ -7,6 +7,8 @@ mod bound;
 #[cfg(test)]
 mod definitions;
 mod growth;
+#[cfg(test)]
+mod growth_tests;
 mod net_weights;
 mod spread;
 mod steep;

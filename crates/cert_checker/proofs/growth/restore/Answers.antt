@@ -1,4 +1,3 @@
-use Rattle.std.proofs.Common.{arith}
 use Rattle.cert_checker.proofs.Rests.{AreRestored-none, AreRestored-more, restored-up, restored-down}
 use Rattle.cert_checker.proofs.growth.restore.Goals as goal
 

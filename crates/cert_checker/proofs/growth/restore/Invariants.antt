@@ -1,4 +1,3 @@
-use Rattle.std.proofs.Common.{drop}
 use Rattle.cert_checker.proofs.Rests.{AreRestored}
 use Rattle.cert_checker.proofs.growth.restore.Given as goal
 

@@ -1,6 +1,6 @@
-use Rattle.std.proofs.Common.{◌∙◌, List}
+use Rattle.std.proofs.Common.{◌∙◌}
 use Rattle.board_graph.specs.Graph.{board_of}
-use Rattle.cert_checker.specs.Growing.{arcs_of, height_in, AreListed}
+use Rattle.cert_checker.specs.Growing.{arcs_of, height_in}
 use Rattle.cert_checker.proofs.Wearing.{AreWorn-more}
 use Rattle.cert_checker.proofs.growth.wear.Goals as goal
 

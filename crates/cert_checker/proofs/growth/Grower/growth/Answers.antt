@@ -1,8 +1,8 @@
-use Rattle.std.proofs.Common.{◌≡◌, ◌≢◌, ℕ, ◌-◌, ◌<◌, ◌≤◌, ◌^◌, List, Ok, Err, Result, [], ◌∷◌, length, drop, take, get_or, sym, ap, ◌∙◌, subst, arith}
+use Rattle.std.proofs.Common.{◌≢◌, ℕ, List, sym, subst}
 use Rattle.std.specs.Prelude.{AllPairs, Contains, IfOk, slice_index}
 use Rattle.board_graph.specs.Graph.{board_of}
 use Rattle.bound_cert.specs.Growth.{IsGrowth}
-use Rattle.cert_checker.specs.Growing.{Lengths, AreGoals, AreListed}
+use Rattle.cert_checker.specs.Growing.{Lengths, AreListed}
 use Rattle.cert_checker.proofs.GrowingLaws.{growth-ok}
 use Rattle.cert_checker.proofs.Rests.{AreListed-whole}
 use Rattle.cert_checker.proofs.growth.Grower.growth.Goals as goal
