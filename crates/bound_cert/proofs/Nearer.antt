@@ -73,12 +73,12 @@ module _ (board : Board) where
 
     pub decide-leads : (e : ℕ) → LeadsTo P e v ⊎ ¬ LeadsTo P e v
     decide-leads e = elim (slice_get_cases board.wires e).1 [
-        | inl (wire, inside, is, at) ↦ ⊎_elim
-            (λ (way : IsEitherWay wire). inl (leads-from_way e wire is way))
-            (λ (none : ¬ IsEitherWay wire). inr (λ leads. none (way-from_leads e wire is leads)))
-            (decide-ways wire)
-        | inr (past, none) ↦ inr (λ leads. none-some leads.1.wire (sym none ∙ leads.1.is))
-      ]
+      | inl (wire, inside, is, at) ↦ ⊎_elim
+          (λ (way : IsEitherWay wire). inl (leads-from_way e wire is way))
+          (λ (none : ¬ IsEitherWay wire). inr (λ leads. none (way-from_leads e wire is leads)))
+          (decide-ways wire)
+      | inr (past, none) ↦ inr (λ leads. none-some leads.1.wire (sym none ∙ leads.1.is))
+    ]
 
     pub decide-next : (es : List ℕ) → IsNext P es v ⊎ ¬ IsNext P es v
     decide-next [] = inr (λ next. omega (arith, next.1.1))

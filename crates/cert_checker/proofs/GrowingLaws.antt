@@ -26,12 +26,14 @@ module _ (board : Board) where
           way = (is.way.0, walk-agree board rests other agree x is.way.0 is.nearest reach is.way.1);
           least = λ f es total there walk. is.least f es total there (walk-agree board other rests back x es f total walk);
         },
-        (heights,
-        λ f. record {
-          enough = λ es total walk. (are f).enough es total (walk-agree board other rests back x es f total walk);
-          exact = ⊎_elim (λ low. inl low) (λ near. inr (near.0, (near.1.0, walk-agree board rests other agree x near.0 f near.1.0 near.1.1, near.1.2))) (are f).exact;
-        },
-        (rest, grow-agree root more (worn rests heights) (worn other heights) (λ e v u links. omega (arith, agree e v u links)) rest grows, sum)),
+        (
+          heights,
+          λ f. record {
+            enough = λ es total walk. (are f).enough es total (walk-agree board other rests back x es f total walk);
+            exact = ⊎_elim (λ low. inl low) (λ near. inr (near.0, (near.1.0, walk-agree board rests other agree x near.0 f near.1.0 near.1.1, near.1.2))) (are f).exact;
+          },
+          (rest, grow-agree root more (worn rests heights) (worn other heights) (λ e v u links. omega (arith, agree e v u links)) rest grows, sum),
+        ),
       )
 
   -- one FPGA grew, and others are to grow over what it left

@@ -76,7 +76,10 @@ fn a_star_grows_by_all_its_arms(rt: HostRuntime) -> Result<(), Fail> {
 fn a_ring_grows_by_all_but_its_longest_wire(rt: HostRuntime) -> Result<(), Fail> {
     let alloc = rt.alloc();
     assert_eq!(rt; growth_on_ring(alloc, &[1; 5], &[0, 1, 2, 3, 4])?, 4);
-    assert_eq!(rt; growth_on_ring(alloc, &[1, 2, 3, 4, 5], &[0, 1, 2, 3, 4])?, 10);
+    assert_eq!(rt;
+        growth_on_ring(alloc, &[1, 2, 3, 4, 5], &[0, 1, 2, 3, 4])?,
+        10
+    );
     assert_eq!(rt; growth_on_ring(alloc, &[1, 2, 3, 4, 5], &[0, 2])?, 3);
     assert_eq!(rt; growth_on_ring(alloc, &[1, 2, 3, 4, 5], &[0, 3])?, 6);
     Ok(())

@@ -8,8 +8,12 @@ use Rattle.steiner_build.proofs.MarkLaws.{IsMarking-start, IsMarking-more, AreOt
 use Rattle.cert_checker.proofs.growth.mark.Goals as goal
 
 pub loop-f-init : goal.loop-f-init
-loop-f-init c = (c.begin.new.self, c.begin.ensures.labels, c.begin.ensures.goals,
-    (0, IsMarking-start c.args.fpgas.now (length c.args.search.now.goals) c.begin.new.self (subst HasNoGoals (sym c.begin.ensures.goals) c.requires.none)))
+loop-f-init c = (
+  c.begin.new.self,
+  c.begin.ensures.labels,
+  c.begin.ensures.goals,
+  (0, IsMarking-start c.args.fpgas.now (length c.args.search.now.goals) c.begin.new.self (subst HasNoGoals (sym c.begin.ensures.goals) c.requires.none)),
+)
 
 pub add_goal-requires-clause-there : goal.add_goal-requires-clause-there
 add_goal-requires-clause-there c =
@@ -29,10 +33,16 @@ loop-f-preserved c =
     let marking = c.loop-f.invariant.3.1 in
     let below : get_or fpgas i 0 < length c.loop-f.search.goals = omega (arith, there, marking.size, ap length c.loop-f.invariant.2) in
     let off : get_or c.loop-f.search.goals (get_or fpgas i 0) false ≡ false = not-goal c.loop-f.search.goals (get_or fpgas i 0)
-    (λ is. let before = (marking.goals (get_or fpgas i 0) is).0 in c.requires.distinct before.0 i 0 before.1 c.loop-f-test.true before.2) in
-    (c.loop-f.invariant.0, c.loop-f.invariant.1, c.loop-f.invariant.2, (c.loop-f.invariant.3.0 + 1,
-    IsMarking-more fpgas (length c.args.search.now.goals) i c.loop-f.invariant.0 c.loop-f.search c.add_goal.new.self c.loop-f.invariant.3.0 marking
-    (λ same'. omega (arith, there, same')) off below c.add_goal.ensures.labels c.add_goal.ensures.queue c.add_goal.ensures.goals c.add_goal.ensures.under_way))
+    (λ is. let before = (marking.goals (get_or fpgas i 0) is).0 in c.requires.distinct before.0 i 0 before.1 c.loop-f-test.true before.2) in (
+      c.loop-f.invariant.0,
+      c.loop-f.invariant.1,
+      c.loop-f.invariant.2,
+      (
+        c.loop-f.invariant.3.0 + 1,
+        IsMarking-more fpgas (length c.args.search.now.goals) i c.loop-f.invariant.0 c.loop-f.search c.add_goal.new.self c.loop-f.invariant.3.0 marking
+            (λ same'. omega (arith, there, same')) off below c.add_goal.ensures.labels c.add_goal.ensures.queue c.add_goal.ensures.goals c.add_goal.ensures.under_way,
+      ),
+    )
 
 pub returns-clause-goals : goal.returns-clause-goals
 returns-clause-goals c = λ f.
