@@ -32,8 +32,8 @@ read-out slot limit name bytes before after read held short = record { is_open =
   where
     by : (files : Option Files) → files_of before ≡ files → ForSome (rest_of slot after) (λ rest. rest ≡ [])
     by None told = λ rest is. absurd (
-      let e : ◌≡◌ {A = Option Bytes} None (Some rest) = sym (read.rest ∙ ap (option_map (λ files. drop (limit + 1) (bytes_under name files))) told) ∙ is in cc
-    )
+        let e : ◌≡◌ {A = Option Bytes} None (Some rest) = sym (read.rest ∙ ap (option_map (λ files. drop (limit + 1) (bytes_under name files))) told) ∙ is in cc
+        )
     by (Some files) told = λ rest is.
         let e : ◌≡◌ {A = Option Bytes} (Some (drop (limit + 1) (bytes_under name files))) (Some rest) = sym (read.rest ∙ ap (option_map (λ files. drop (limit + 1) (bytes_under name files))) told) ∙ is in
         let same : drop (limit + 1) (bytes_under name files) ≡ rest = cc (e) in
@@ -97,7 +97,7 @@ near nothing opened all = tt
 pub run-read : {D : Type 0} (counts : D → Counts) (steady : D → Type 0) (seen : D → Seen) (request : Request) (before after : D) (answer : Status) → RunEnds counts steady seen faults (inputs_of request) (outputs_of request) (CallsFor request) before after answer → answer ≡ status.Ok → AreReadOut (seen after) (inputs_of request)
 run-read counts steady seen request before after answer ends ok = ended counts steady seen request before after answer ends (AreReadOut (seen after) (inputs_of request))
     (λ outcome came put kept decided. all-read outcome.opened outcome.unread (seen before) (seen after) (inputs_of request) came.contents came.held
-        (short request came.contents outcome came.called (sym put.stands ∙ ok)) (near request outcome.opened (decided.reached (sym put.stands ∙ ok))))
+    (short request came.contents outcome came.called (sym put.stands ∙ ok)) (near request outcome.opened (decided.reached (sym put.stands ∙ ok))))
     (λ slot near came put kept. absurd (let e : status.Ok ≡ status.ReadFault = sym ok ∙ put.stands in cc))
     (λ is failed. absurd (let e : status.Ok ≡ status.WriteFault = sym ok ∙ is in cc))
     (λ is. absurd (let e : status.Ok ≡ status.OutOfMemory = sym ok ∙ is in cc))

@@ -151,11 +151,11 @@ module _ (files : Files) (before after : Seen) (told : files_of before ≡ Some 
   worth (eval board solution) outcome calls left =
       file-says In0 boards _ (IsWorth (eval board solution) files before after) (get files board) outcome calls tt tt
       (λ bytes problem found says then. file-says In1 (solutions problem) (λ routing. Judges problem routing) (IsWorth (eval board solution) files before after) (get files solution) outcome then tt tt
-          (judged board solution outcome left bytes problem found says))
+      (judged board solution outcome left bytes problem found says))
   worth (check board cert) outcome calls left =
       file-says In0 boards _ (IsWorth (check board cert) files before after) (get files board) outcome calls tt tt
       (λ bytes problem found says then. file-says In1 (certificates problem) (λ proof. Checks problem proof) (IsWorth (check board cert) files before after) (get files cert) outcome then tt tt
-          (checked board cert outcome left bytes problem found says))
+      (checked board cert outcome left bytes problem found says))
   worth nothing outcome calls left = tt
 
   -- a fault of the outside is worth nothing
@@ -176,7 +176,7 @@ pub run-worth : {D : Type 0} (counts : D → Counts) (steady : D → Type 0) (se
     → (files : Files) → files_of (seen before) ≡ Some files → IsWorth request files (seen before) (seen after) answer
 run-worth counts steady seen request before after answer ends files told = ended counts steady seen request before after answer ends (IsWorth request files (seen before) (seen after) answer)
     (λ outcome came put kept decided. subst (IsWorth request files (seen before) (seen after)) (sym put.stands)
-        (worth files (seen before) (seen after) told request outcome (told-calls counts steady seen request before after answer files told outcome came decided) put.left))
+    (worth files (seen before) (seen after) told request outcome (told-calls counts steady seen request before after answer files told outcome came decided) put.left))
     (λ slot near came put kept. none (subst IsOutsideFault (sym put.stands) tt))
     (λ is failed. none (subst IsOutsideFault (sym is) tt))
     (λ is. none (subst IsOutsideFault (sym is) tt))

@@ -3,8 +3,8 @@ ghost use Rattle.std.specs.Prelude.{◌≡◌, IfOk};
 ghost use Rattle.tdm_cli.specs.Reports.{steep_report, answer_report};
 
 use crate::report;
-use command_run::{push_line, push_number};
 use cert_checker::{CheckAnswer, Steep};
+use command_run::{push_line, push_number};
 use std::alloc::{AllocError, Global};
 
 /// `steep potential P wire W`.

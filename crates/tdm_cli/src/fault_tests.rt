@@ -80,9 +80,7 @@ fn stops_at_failed_write(alloc: Global, calls: u64) -> Result<Option<bool>, Allo
     let in_order = whole || desk.file("c").is_none();
     let begun = is_begun(desk.file("s"), SOLUTION) && REPORT.starts_with(desk.report());
     let silent = desk.report().is_empty() || desk.file("c").is_some();
-    Ok(Some(
-        answer == Status::WriteFault && in_order && begun && silent,
-    ))
+    Ok(Some(answer == Status::WriteFault && in_order && begun && silent))
 }
 
 #[test]
@@ -171,12 +169,36 @@ fn ends(
 fn counts_that_promise_much_are_refused(rt: HostRuntime) -> Result<(), Fail> {
     let alloc = rt.alloc();
     let solution = "solution refused MissingLine line 2\n";
-    assert!(rt; ends(alloc, &["eval", "b", "t"], "4294967295\n", Status::SolutionRefused, solution)?);
+    assert!(rt;
+        ends(
+            alloc,
+            &["eval", "b", "t"],
+            "4294967295\n",
+            Status::SolutionRefused,
+            solution
+        )?
+    );
     let cert = "certificate refused MissingLine line 2\n";
-    assert!(rt; ends(alloc, &["check", "b", "t"], "1 1 0 4096\n", Status::CertRefused, cert)?);
+    assert!(rt;
+        ends(
+            alloc,
+            &["check", "b", "t"],
+            "1 1 0 4096\n",
+            Status::CertRefused,
+            cert
+        )?
+    );
     let board = "board refused MissingLine line 2\n";
     let words = &["route", "t", "s", "c"];
-    assert!(rt; ends(alloc, words, "4096 65536 1048576 1048576\n", Status::BoardRefused, board)?);
+    assert!(rt;
+        ends(
+            alloc,
+            words,
+            "4096 65536 1048576 1048576\n",
+            Status::BoardRefused,
+            board
+        )?
+    );
     Ok(())
 }
 
@@ -193,7 +215,14 @@ fn certificates_at_the_ends_of_their_ranges_are_checked(rt: HostRuntime) -> Resu
     let long = "1 1 0 1\n1099511627776\n281474976710656\n0 281474976710656\n1\n";
     assert!(rt; checks(alloc, long, Status::Ok, "bound 0\n")?);
     let steep = "1 1 0 1\n1\n281474976710656\n1152921504606846975 0\n1\n";
-    assert!(rt; checks(alloc, steep, Status::CertRejected, "steep potential 0 wire 0\n")?);
+    assert!(rt;
+        checks(
+            alloc,
+            steep,
+            Status::CertRejected,
+            "steep potential 0 wire 0\n"
+        )?
+    );
     let flat = "1 1 0 1\n1\n0\n1152921504606846975 1152921504606846975\n1\n";
     assert!(rt; checks(alloc, flat, Status::Ok, "bound 0\n")?);
     Ok(())

@@ -168,7 +168,12 @@ impl TextReader for SolutionText<'_> {
     fn report(alloc: Global, refusal: SolutionRefusal) -> Result<Vec<u8>, AllocError>
         ensures { IfOk result (λ text. (it : SolutionText) → text.items ≡ (solutions it.problem.now).report refusal) }
     {
-        refused(alloc, b"solution refused ", refusal.kind.name(), refusal.line)
+        refused(
+            alloc,
+            b"solution refused ",
+            refusal.kind.name(),
+            refusal.line,
+        )
     }
 }
 
@@ -247,6 +252,11 @@ impl TextReader for CertText<'_> {
     fn report(alloc: Global, refusal: CertRefusal) -> Result<Vec<u8>, AllocError>
         ensures { IfOk result (λ text. (it : CertText) → text.items ≡ (certificates it.problem.now).report refusal) }
     {
-        refused(alloc, b"certificate refused ", refusal.kind.name(), refusal.line)
+        refused(
+            alloc,
+            b"certificate refused ",
+            refusal.kind.name(),
+            refusal.line,
+        )
     }
 }

@@ -19,11 +19,7 @@ use std::alloc::{AllocError, Global};
 use tdm_problem::{Problem, Solution};
 
 /// The texts of a solution and of a certificate, in this order.
-fn texts(
-    alloc: Global,
-    solution: Solution,
-    cert: Certificate,
-) -> Result<Vec<Output>, AllocError>
+fn texts(alloc: Global, solution: Solution, cert: Certificate) -> Result<Vec<Output>, AllocError>
     ensures { IfOk result (λ texts. texts.items ≡ output.Solution solution ∷ output.Cert cert ∷ []) }
 {
     let mut texts = Vec::new(alloc);

@@ -62,7 +62,11 @@ fn agrees(
 }
 
 /// Runs the words over a desk in memory.
-pub(crate) fn run(alloc: Global, desk: &mut MemoryDesk, words: &[&str]) -> Result<Status, AllocError> {
+pub(crate) fn run(
+    alloc: Global,
+    desk: &mut MemoryDesk,
+    words: &[&str],
+) -> Result<Status, AllocError> {
     let mut list = Vec::new(alloc);
     for word in words {
         list.push(String::from_str(alloc, word)?)?;

@@ -36,8 +36,7 @@ returns-in-Some-Route-clause-ran g c =
     let is = rw c.in-Some-Route.field-0-is at c.in-Some-Route.ensures.found in
     let request = route c.in-Some-Route.board.now c.in-Some-Route.field-0-1.now c.in-Some-Route.field-0-2.now c.in-Some-Route.rounds in
     let names = ap (map string_bytes) c.output_names.ensures ∙ names-behind string_bytes c.args.words.now _ _ _ _ is.further is.words_are in
-    let room = has-room _ _ _ _ _ _ _ 2 (omega (arith, ap (λ (ns : List (List ℕ)). length ns) names)) (omega arith) (few-texts request) c.decide_route-decision.result c.decide_route-decision.ensures in
-    (
+    let room = has-room _ _ _ _ _ _ _ 2 (omega (arith, ap (λ (ns : List (List ℕ)). length ns) names)) (omega arith) (few-texts request) c.decide_route-decision.result c.decide_route-decision.ensures in (
       request,
       is,
       subst (λ outputs. RunEnds g.D.Desk.counts g.D.Desk.steady g.D.Desk.seen faults (inputs_of request) outputs (CallsFor request) c.args.desk.now c.conclude.new.desk c.conclude.result) names
