@@ -4,6 +4,7 @@ use Rattle.std.specs.Prelude.{sum_by}
 use Rattle.tdm_problem.specs.Board.{Board, IsBoard}
 use Rattle.tdm_problem.specs.Legal.{AllConnectable}
 use Rattle.tdm_problem.specs.Routing.{Routing}
+use Rattle.tdm_problem.specs.Tight.{IsTight}
 use Rattle.tdm_problem.specs.Trees.{trees_of}
 use Rattle.tdm_problem.specs.Value.{value_of}
 use Rattle.even_legalise.specs.Uniform.{uniform_routing}
@@ -78,11 +79,12 @@ IsBest-baseline board routing value certified baseline best value_is bound_is =
     }
 
 -- what was improved by so many rounds from the baseline's trees
-pub IsImproved-rounds : (board : Board) (trees : List (List ℕ)) (count : ℕ) (routing : Routing) (value : ℕ) (certified : Certified) → AllConnectable board → AreBaseTrees board trees → sum_by length trees ≤ most_uses → IsBest board routing value certified → (0 < value → MeetsRounds board trees count value certified.bound) → IsImproved board count routing certified.cert
-IsImproved-rounds board trees count routing value certified joined base few best met = record {
+pub IsImproved-rounds : (board : Board) (trees : List (List ℕ)) (count : ℕ) (routing : Routing) (value : ℕ) (certified : Certified) → AllConnectable board → AreBaseTrees board trees → sum_by length trees ≤ most_uses → IsBest board routing value certified → IsTight board routing → (0 < value → MeetsRounds board trees count value certified.bound) → IsImproved board count routing certified.cert
+IsImproved-rounds board trees count routing value certified joined base few best tight met = record {
   joined = joined;
   within = λ others other. subst (λ ts. sum_by length ts ≤ most_uses) (base-trees-unique board trees others base other) few;
   may_be_written = best.may_be_written;
+  tight = tight;
   rounds = λ positive. (
     trees,
     base,

@@ -20,6 +20,14 @@ IsMet-better board value bound lower higher less more round met = record {
   no_weaker = λ fits other is. omega (arith, more, met.no_weaker fits other is);
 }
 
+-- so it is with a list of rounds
+pub MeetsFrom-lower : (board : Board) (count : ℕ) (weights : List ℕ) (before : List (List ℕ)) (value lower bound : ℕ) → lower ≤ value → MeetsFrom board count weights before value bound → MeetsFrom board count weights before lower bound
+MeetsFrom-lower board count weights before value lower bound less meets = record {
+  rounds = meets.rounds;
+  list = meets.list;
+  met = All-weaker (IsMet board value bound) (IsMet board lower bound) (IsMet-better board value bound lower bound less (omega arith)) meets.rounds meets.met;
+}
+
 module _ (board : Board) (count : ℕ) (first : List ℕ) (baseline : List (List ℕ)) where
   -- so many rounds are left, from these weights and trees; the value and the bound meet those before
   pub record IsUnderWay (left : ℕ) (weights : List ℕ) (trees : List (List ℕ)) (value bound : ℕ) : Type 0 where

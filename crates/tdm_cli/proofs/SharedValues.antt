@@ -32,12 +32,12 @@ trees-of_zip ratio (row ∷ trees) (number ∷ numbers) paired =
 pub trees-of_shared : (board : Board) (trees : List (List ℕ)) (numbers : List ℕ) → length numbers ≡ length trees → trees_of (shared_routing board trees numbers) ≡ trees
 trees-of_shared board trees numbers paired = trees-of_zip (λ e number. shared_ratio board trees numbers e number) trees numbers paired
 
-wires-at : (routing : Routing) (n : ℕ) → wires_of (uses_of routing n) ≡ tree_of (trees_of routing) n
+pub wires-at : (routing : Routing) (n : ℕ) → wires_of (uses_of routing n) ≡ tree_of (trees_of routing) n
 wires-at [] n = refl
 wires-at (uses ∷ routing) zero = refl
 wires-at (uses ∷ routing) (suc n) = wires-at routing n
 
-lengths-of : (routing : Routing) → sum_by length (trees_of routing) ≡ sum_by length routing
+pub lengths-of : (routing : Routing) → sum_by length (trees_of routing) ≡ sum_by length routing
 lengths-of [] = refl
 lengths-of (uses ∷ routing) =
     omega (
@@ -49,9 +49,6 @@ lengths-of (uses ∷ routing) =
     )
 
 module _ (board : Board) (trees : List (List ℕ)) (numbers : List ℕ) (paired : length numbers ≡ length trees) where
-  pub shared-wires : (n : ℕ) → wires_of (uses_of (shared_routing board trees numbers) n) ≡ tree_of trees n
-  shared-wires n = wires-at (shared_routing board trees numbers) n ∙ ap (λ (ts : List (List ℕ)). tree_of ts n) (trees-of_shared board trees numbers paired)
-
   pub shared-few : sum_by length (shared_routing board trees numbers) ≡ sum_by length trees
   shared-few = sym (lengths-of (shared_routing board trees numbers)) ∙ ap (λ (ts : List (List ℕ)). sum_by length ts) (trees-of_shared board trees numbers paired)
 

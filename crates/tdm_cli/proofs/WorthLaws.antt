@@ -80,6 +80,7 @@ module _ (files : Files) (before after : Seen) (told : files_of before ≡ Some 
         legal = may.legal;
         minimal = may.minimal;
         few = may.few;
+        tight = improved.tight;
         no_worse = may.no_worse;
         proof = proof;
         valid = may.valid;

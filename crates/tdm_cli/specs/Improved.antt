@@ -2,6 +2,7 @@
 use Rattle.std.specs.Prelude.{ℕ, ◌<◌, List}
 use Rattle.tdm_problem.specs.Board.{Board}
 use Rattle.tdm_problem.specs.Routing.{Routing}
+use Rattle.tdm_problem.specs.Tight.{IsTight}
 use Rattle.tdm_problem.specs.Value.{value_of}
 use Rattle.shortest_forest.specs.Baseline.{AreBaseTrees}
 use Rattle.bound_cert.specs.Certificate.{Cert}
@@ -16,11 +17,12 @@ abbrev pub MeetsBaselineRounds : Board → (count value bound : ℕ) → Type 0
 MeetsBaselineRounds board count value bound =
     (trees : List (List ℕ)) × AreBaseTrees board trees × MeetsRounds board trees count value bound
 
--- of a board with a baseline a solution and a certificate that may be written; unless the value is 0, so many rounds that
--- both meet
+-- of a board with a baseline a tight solution and a certificate that may be written; unless the value is 0, so many rounds
+-- that both meet
 pub record IsImproved (board : Board) (count : ℕ) (routing : Routing) (cert : Cert) : Type 0 where
   pub joined : AllConnectable board
   pub within : IsWithinUseLimit board
   pub may_be_written : IsRouting board routing cert
+  pub tight : IsTight board routing
   pub rounds : 0 < value_of board routing
       → MeetsBaselineRounds board count (value_of board routing) (bound_of board cert)

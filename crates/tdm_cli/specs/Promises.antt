@@ -5,6 +5,7 @@ use Rattle.tdm_desk.specs.Files.{Bytes, Name, Files, with_file}
 use Rattle.tdm_desk.specs.Seen.{Seen, files_of, said_of}
 use Rattle.tdm_problem.specs.Board.{Board}
 use Rattle.tdm_problem.specs.Routing.{Routing, uses_of, wires_of}
+use Rattle.tdm_problem.specs.Tight.{IsTight}
 use Rattle.tdm_problem.specs.Walk.{IsMinimalTree}
 use Rattle.tdm_problem.specs.Legal.{IsLegal, terminals_of}
 use Rattle.tdm_problem.specs.Value.{value_of}
@@ -55,6 +56,7 @@ pub record IsRouted (files : Files) (name solution cert : Name) (count : ℕ) (b
   pub minimal : (n : ℕ) → n < length board.nets
       → IsMinimalTree board (wires_of (uses_of routing n)) (terminals_of board n)
   pub few : sum_by length routing ≤ most_uses
+  pub tight : IsTight board routing
   pub no_worse : (value : ℕ) → IsBaselineValue board value → value_of board routing ≤ value
   pub proof : Cert
   pub valid : IsValid board proof

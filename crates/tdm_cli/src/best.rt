@@ -1,9 +1,12 @@
 //! The best solution and the best certificate that were found so far.
 ghost use Rattle.std.specs.Prelude.{◌≡◌, ◌≤◌, ◌^◌, ℕ, length, map, sum_by, All, OnOk};
 ghost use Rattle.tdm_problem.specs.Legal.{AllConnectable};
+ghost use Rattle.tdm_problem.specs.Tight.{IsTight};
+ghost use Rattle.tdm_problem.specs.Trees.{HasRisingRows};
 ghost use Rattle.tdm_problem.specs.Value.{group_sum, value_of};
 ghost use Rattle.board_graph.specs.Graph.{graph_of};
 ghost use Rattle.even_legalise.specs.Shared.{shared_routing};
+ghost use Rattle.net_groups.specs.Incidence.{IsIncidenceOf};
 ghost use Rattle.ripup_reroute.specs.Rerouting.{AreMinimalTrees};
 ghost use Rattle.tdm_cli.specs.Baseline.{most_uses};
 ghost use Rattle.tdm_cli.specs.Best.{IsBest};
@@ -14,9 +17,12 @@ use board_graph::BoardGraph;
 use bound_cert::weighted_share_cert;
 use even_legalise::legalise;
 use group_multipliers::largest_sum;
+use net_groups::Incidence;
 use ripup_reroute::loads_of;
+use solution_eval::value;
 use std::alloc::{AllocError, Global};
 use tdm_problem::{Problem, Solution, Trees};
+use worst_refine::{tighten, trade_from};
 
 /// The solution of the least value so far, and the certificate of the greatest bound so far.
 #[derive(Drop)]
@@ -37,6 +43,7 @@ pub(crate) fn keep_solution(
     best: &mut Best,
 ) -> Result<(), AllocError>
     requires minimal { AreMinimalTrees problem.now trees.now }
+    requires rising { HasRisingRows trees.now }
     requires few { sum_by length trees.now ≤ most_uses }
     requires count { length numbers.now ≡ length problem.now.nets }
     requires small { All (λ number. number ≤ 2 ^ 30) numbers.now }
@@ -53,6 +60,62 @@ pub(crate) fn keep_solution(
         best.solution = legalise(alloc, problem, trees, numbers)?;
         best.value = worth;
     }
+    Ok(())
+}
+
+/// Whether ratios are traded in a round, where so many were done before: in the first eight, and then in every fourth.
+fn is_for_trade(done: u32) -> bool {
+    done < 8 || done % 4 == 3
+}
+
+/// Trades ratios on the trees of a round, where so many were done before, beginning with ratios by the numbers of the nets.
+/// Keeps the solution that is found where its value is less than the best.
+pub(crate) fn keep_traded(
+    alloc: Global,
+    problem: &Problem,
+    incidence: &Incidence,
+    trees: &Trees,
+    numbers: &[u64],
+    done: u32,
+    best: &mut Best,
+) -> Result<(), AllocError>
+    requires incidence { IsIncidenceOf problem.now incidence.now }
+    requires minimal { AreMinimalTrees problem.now trees.now }
+    requires rising { HasRisingRows trees.now }
+    requires few { sum_by length trees.now ≤ most_uses }
+    requires count { length numbers.now ≡ length problem.now.nets }
+    requires best { IsBest problem.now best.old.solution best.old.value best.old.certified }
+    ensures best { OnOk result (IsBest problem.now best.new.solution best.new.value best.new.certified) }
+    ensures lower { OnOk result (best.new.value ≤ best.old.value) }
+    ensures certified { best.new.certified ≡ best.old.certified }
+{
+    if !is_for_trade(done) {
+        return Ok(());
+    }
+    let found = trade_from(alloc, problem, incidence, trees, numbers, best.value, done == 0)?;
+    if let Some(solution) = found {
+        best.value = value(alloc, problem, &solution)?;
+        best.solution = solution;
+    }
+    Ok(())
+}
+
+/// Lowers ratios of the best solution until none can be lowered by 2.
+pub(crate) fn tighten_best(
+    alloc: Global,
+    problem: &Problem,
+    incidence: &Incidence,
+    best: &mut Best,
+) -> Result<(), AllocError>
+    requires incidence { IsIncidenceOf problem.now incidence.now }
+    requires best { IsBest problem.now best.old.solution best.old.value best.old.certified }
+    ensures best { OnOk result (IsBest problem.now best.new.solution best.new.value best.new.certified) }
+    ensures tight { OnOk result (IsTight problem.now best.new.solution) }
+    ensures lower { OnOk result (best.new.value ≤ best.old.value) }
+    ensures certified { best.new.certified ≡ best.old.certified }
+{
+    tighten(alloc, problem, incidence, &mut best.solution)?;
+    best.value = value(alloc, problem, &best.solution)?;
     Ok(())
 }
 

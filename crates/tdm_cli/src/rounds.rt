@@ -3,6 +3,7 @@
 ghost use Rattle.std.specs.Prelude.{◌≡◌, ◌<◌, ◌≤◌, ◌^◌, ℕ, length, replicate, true, false, All, IfOk, OnOk};
 ghost use Rattle.std.specs.List.{range_with_len};
 ghost use Rattle.tdm_problem.specs.Legal.{AllConnectable};
+ghost use Rattle.tdm_problem.specs.Tight.{IsTight};
 ghost use Rattle.board_graph.specs.Graph.{graph_of};
 ghost use Rattle.net_groups.specs.Incidence.{IsIncidenceOf};
 ghost use Rattle.ripup_reroute.specs.Rerouting.{AreMinimalTrees};
@@ -10,7 +11,7 @@ ghost use Rattle.tdm_cli.specs.Best.{IsBest};
 ghost use Rattle.tdm_cli.specs.Rounds.{MeetsFrom, MeetsRounds};
 ghost use Rattle.tdm_cli.specs.Running.{AreWeights, IsWent, IsEnded};
 
-use crate::best::{Best, keep_certificate, keep_solution};
+use crate::best::{Best, keep_certificate, keep_solution, keep_traded, tighten_best};
 use crate::numbers::{all_nets, are_few, numbers_of};
 use board_graph::BoardGraph;
 use bound_cert::UNIFORM_WEIGHT;
@@ -32,11 +33,12 @@ struct Running {
     best: Best,
 }
 
-/// Improves a solution and a certificate by so many rounds, from the baseline's trees. The value does not rise, and the
-/// bound does not fall; unless the value becomes 0, one list of rounds meets both. Rounds end early where the value is
-/// 0, and after the first whose trees have more wires than a solution may use. Method: Lagrangian weights on the groups,
-/// renewed by how large their sums are; shares by the roots of the weights, which are the best where ratios are any real
-/// numbers (Cauchy and Schwarz). The only error is want of memory.
+/// Improves a solution and a certificate by so many rounds, from the baseline's trees, and then lowers ratios of the best
+/// solution until none can be lowered by 2. The value does not rise, and the bound does not fall; unless the value becomes
+/// 0, one list of rounds meets both. Rounds end early where the value is 0, and after the first whose trees have more wires
+/// than a solution may use. Method: Lagrangian weights on the groups, renewed by how large their sums are; shares by the
+/// roots of the weights, which are the best where ratios are any real numbers (Cauchy and Schwarz). The only error is want
+/// of memory.
 pub fn improve(
     alloc: Global,
     problem: &Problem,
@@ -50,6 +52,7 @@ pub fn improve(
     requires minimal { AreMinimalTrees problem.now trees }
     requires best { IsBest problem.now best.solution best.value best.certified }
     ensures best { IfOk result (λ found. IsBest problem.now found.solution found.value found.certified) }
+    ensures tight { IfOk result (λ found. IsTight problem.now found.solution) }
     ensures rounds { IfOk result (λ found. 0 < found.value
         → MeetsRounds problem.now trees rounds found.value found.certified.bound) }
 {
@@ -70,6 +73,7 @@ pub fn improve(
         &mut running,
         rounds,
     )?;
+    tighten_best(alloc, problem, &incidence, &mut running.best)?;
     Ok(running.best)
 }
 
@@ -100,21 +104,22 @@ fn all_rounds(
         if running.best.value == 0 {
             return Ok(());
         }
-        if !round(alloc, problem, graph, incidence, nets, running)? {
+        if !round(alloc, problem, graph, incidence, nets, done, running)? {
             return Ok(());
         }
     }
     Ok(())
 }
 
-/// Does a round. Answers whether another may follow: not where its trees have more wires than a solution may use, and
-/// not where the best value is 0.
+/// Does a round, where so many were done before. Answers whether another may follow: not where its trees have more wires
+/// than a solution may use, and not where the best value is 0.
 fn round(
     alloc: Global,
     problem: &Problem,
     graph: &BoardGraph,
     incidence: &Incidence,
     nets: &[u32],
+    done: u32,
     running: &mut Running,
 ) -> Result<bool, AllocError>
     requires graph { graph.now ≡ graph_of problem.now }
@@ -156,6 +161,15 @@ fn round(
         &running.trees,
         &numbers,
         &sums,
+        &mut running.best,
+    )?;
+    keep_traded(
+        alloc,
+        problem,
+        incidence,
+        &running.trees,
+        &numbers,
+        done,
         &mut running.best,
     )?;
     keep_certificate(

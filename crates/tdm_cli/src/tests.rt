@@ -92,8 +92,8 @@ fn routes_the_worked_boards(rt: HostRuntime) -> Result<(), Fail> {
             alloc,
             THREE,
             Status::Ok,
-            "value 12\nbound 10\n",
-            "1\n0 4\n1\n0 4\n1\n0 4\n"
+            "value 10\nbound 10\n",
+            "1\n0 2\n1\n0 4\n1\n0 4\n"
         )?
     );
     assert!(rt;
@@ -102,7 +102,7 @@ fn routes_the_worked_boards(rt: HostRuntime) -> Result<(), Fail> {
             "2 1 3 3\n0 1\n0 1\n0 1\n0 1\n0\n1\n2\n",
             Status::Ok,
             "value 4\nbound 4\n",
-            "1\n0 4\n1\n0 4\n1\n0 4\n"
+            "1\n0 2\n1\n0 4\n1\n0 4\n"
         )?
     );
     assert!(rt;
@@ -119,8 +119,8 @@ fn routes_the_worked_boards(rt: HostRuntime) -> Result<(), Fail> {
             alloc,
             "2 1 5 2\n0 1\n0 1\n0 1\n0 1\n0 1\n0 1\n0 1 2 3\n4\n",
             Status::Ok,
-            "value 24\nbound 18\n",
-            "1\n0 6\n1\n0 6\n1\n0 6\n1\n0 6\n1\n0 6\n"
+            "value 18\nbound 18\n",
+            "1\n0 4\n1\n0 4\n1\n0 4\n1\n0 6\n1\n0 12\n"
         )?
     );
     assert!(rt;

@@ -5,3 +5,4 @@ pub mod Replacing
 pub mod SpentSums
 pub mod Proposals
 pub mod SureSteps
+pub mod Worth

@@ -5,6 +5,7 @@ ghost use Rattle.tdm_problem.specs.Legal.{IsLegal, IsEvenRatio};
 ghost use Rattle.tdm_problem.specs.Limits.{most_wires};
 ghost use Rattle.tdm_problem.specs.Routing.{uses_of};
 ghost use Rattle.tdm_problem.specs.Tight.{IsTight};
+ghost use Rattle.tdm_problem.specs.Value.{value_of};
 ghost use Rattle.net_groups.specs.Incidence.{IsIncidenceOf};
 ghost use Rattle.recip_sum.specs.Counts.{items};
 ghost use Rattle.recip_sum.specs.Rounded.{floor_sum};
@@ -21,7 +22,7 @@ use std::alloc::{AllocError, Global};
 use tdm_problem::{MAX_WIRES, Problem, Solution};
 
 /// Lowers ratios of a legal solution until none above 2 can be lowered by 2. The solution stays legal, each net
-/// keeps its wires, and no ratio rises.
+/// keeps its wires, and neither a ratio nor the value rises.
 ///
 /// A cheap pass comes first, in which ratios of nets of the worst groups are lowered before others, as far as reciprocals
 /// rounded up leave room. One exact pass over all uses is then enough: a ratio that is lowered leaves less room for the
@@ -39,6 +40,7 @@ pub fn tighten(
     requires legal { IsLegal problem.now solution.old }
     ensures legal { IsLegal problem.now solution.new }
     ensures lowered { IsLowered solution.old solution.new }
+    ensures value { value_of problem.now solution.new ≤ value_of problem.now solution.old }
     ensures tight { OnOk result (IsTight problem.now solution.new) }
 {
     lower_surely(alloc, problem, incidence, solution)?;

@@ -28,18 +28,18 @@ next_weights-requires-clause-small c =
     let roots = c.in_ok-numbers.ensures.roots c.args.problem.now c.requires.incidence in
     let paired : length c.deref-3.result.now ≡ length c.reroute.new.trees =
     ap length c.deref-3.ensures.value ∙ roots.count ∙ sym c.in_ok-_rerouted.ensures.rerouted.minimal.for_board.nets in
-    subst (λ (xs : List ℕ). All (λ total. total ≤ 2 ^ 87) xs) (sym (c.deref-9.ensures.value ∙ c.in_ok-sums.ensures))
+    subst (λ (xs : List ℕ). All (λ total. total ≤ 2 ^ 87) xs) (sym (c.deref-10.ensures.value ∙ c.in_ok-sums.ensures))
     (shared-sums_small c.args.problem.now c.reroute.new.trees c.deref-3.result.now c.requires.best.may_be_written.sayable.limits c.are_few.ensures.rising paired
     (c.are_few.ensures.yes c.if-not-are_few.false))
 
 pub returns-clause-weights : goal.returns-clause-weights
 returns-clause-weights c =
-    let sums : length c.deref-9.result.now ≡ length c.deref-8.result.now =
-    ap length (c.deref-9.ensures.value ∙ c.in_ok-sums.ensures)
+    let sums : length c.deref-10.result.now ≡ length c.deref-9.result.now =
+    ap length (c.deref-10.ensures.value ∙ c.in_ok-sums.ensures)
     ∙ length-map c.args.problem.now.groups (group_sum (shared_routing c.args.problem.now c.reroute.new.trees c.deref-3.result.now))
-    ∙ sym (ap length c.deref-8.ensures.value ∙ c.requires.weights.count) in
+    ∙ sym (ap length c.deref-9.ensures.value ∙ c.requires.weights.count) in
     record {
-      count = ap length c.in_ok-running.ensures.value ∙ renewed-count c.deref-8.result.now c.deref-9.result.now sums ∙ ap length c.deref-8.ensures.value ∙ c.requires.weights.count;
+      count = ap length c.in_ok-running.ensures.value ∙ renewed-count c.deref-9.result.now c.deref-10.result.now sums ∙ ap length c.deref-9.ensures.value ∙ c.requires.weights.count;
       positive = c.in_ok-running.ensures.positive;
       limited = c.in_ok-running.ensures.limited;
     }
@@ -57,15 +57,15 @@ returns-clause-went c _ =
           c.deref.ensures.value c.deref-2.ensures.value c.requires.nets (c.in_ok-numbers.ensures.roots board c.requires.incidence) c.in_ok-_rerouted.ensures.passes;
       fits = c.are_few.ensures.yes c.if-not-are_few.false;
       next_is = c.in_ok-running.ensures.value
-          ∙ ap (λ (ws : List ℕ). renewed ws c.deref-9.result.now) c.deref-8.ensures.value
-          ∙ ap (renewed weights) (c.deref-9.ensures.value ∙ c.in_ok-sums.ensures ∙ ap sums_of c.deref-3.ensures.value);
+          ∙ ap (λ (ws : List ℕ). renewed ws c.deref-10.result.now) c.deref-9.ensures.value
+          ∙ ap (renewed weights) (c.deref-10.ensures.value ∙ c.in_ok-sums.ensures ∙ ap sums_of c.deref-3.ensures.value);
       met = record {
         no_worse = λ fits.
             subst (λ (ns : List ℕ). c.keep_certificate.new.best.value ≤ value_of board (shared_routing board trees ns)) c.deref-4.ensures.value
-            (omega (arith, c.keep_certificate.ensures.value, c.in_ok-keep_solution.ensures.value));
+            (omega (arith, c.keep_certificate.ensures.value, c.in_ok-keep_traded.ensures.lower, c.in_ok-keep_solution.ensures.value));
         no_weaker = λ fits other is.
             c.in_ok-keep_certificate.ensures.bound other
-            (subst (λ (ws : List ℕ). IsRoundBound board (record { weights = ws; numbers = c.deref-7.result.now; trees = trees }) other) (sym c.deref-6.ensures.value)
-            (subst (λ (ns : List ℕ). IsRoundBound board (record { weights = weights; numbers = ns; trees = trees }) other) (sym c.deref-7.ensures.value) is));
+            (subst (λ (ws : List ℕ). IsRoundBound board (record { weights = ws; numbers = c.deref-8.result.now; trees = trees }) other) (sym c.deref-7.ensures.value)
+            (subst (λ (ns : List ℕ). IsRoundBound board (record { weights = weights; numbers = ns; trees = trees }) other) (sym c.deref-8.ensures.value) is));
       };
     }
