@@ -1,6 +1,7 @@
 use Rattle.std.proofs.Common.{◌≡◌, ℕ, length, subst, ap, ◌∙◌, arith}
 use Rattle.worst_refine.specs.Fitting.{HasFittingRatios}
 use Rattle.worst_refine.proofs.Lowering.{IsLegal-lowered, IsLowered-trans}
+use Rattle.worst_refine.proofs.Worth.{value_lowered}
 use Rattle.worst_refine.proofs.tight.tighten.Goals as goal
 
 pub returns-clause-legal : goal.returns-clause-legal
@@ -24,3 +25,15 @@ returns-in_err-lower_surely-clause-legal c =
 pub returns-in_err-counts-clause-legal : goal.returns-in_err-counts-clause-legal
 returns-in_err-counts-clause-legal c =
     IsLegal-lowered c.args.problem.now c.args.solution.now c.lower_surely.new.solution c.requires.legal c.lower_surely.ensures.lowered c.lower_surely.ensures.fitting
+
+-- lower ratios have no greater value
+pub returns-clause-value : goal.returns-clause-value
+returns-clause-value c =
+    value_lowered c.args.problem.now c.args.solution.now c.tighten_nets.new.solution
+    (IsLowered-trans c.args.solution.now c.lower_surely.new.solution c.tighten_nets.new.solution c.lower_surely.ensures.lowered c.tighten_nets.ensures.lowered)
+
+pub returns-in_err-lower_surely-clause-value : goal.returns-in_err-lower_surely-clause-value
+returns-in_err-lower_surely-clause-value c = value_lowered c.args.problem.now c.args.solution.now c.lower_surely.new.solution c.lower_surely.ensures.lowered
+
+pub returns-in_err-counts-clause-value : goal.returns-in_err-counts-clause-value
+returns-in_err-counts-clause-value c = value_lowered c.args.problem.now c.args.solution.now c.lower_surely.new.solution c.lower_surely.ensures.lowered
