@@ -1,6 +1,6 @@
 -- the ratios on each wire, counted net by net
 use Rattle.std.proofs.Common.{◌≡◌, ◌≢◌, ℕ, suc, ◌+◌, ◌^◌, ◌<◌, ◌≤◌, cond, List, [], ◌∷◌, ◌++◌, length, get_or, take, sym, ap, ◌∙◌, subst, refl, inl, inr, arith}
-use Rattle.std.specs.Prelude.{All, AllPairs, filter, slice_set, ◌==◌}
+use Rattle.std.specs.Prelude.{All, AllPairs, Bool, filter, slice_set, ◌==◌}
 use Rattle.std.specs.Ordering.{nat_cmp}
 use Rattle.std.specs.FinMap as map
 use Rattle.std.proofs.lemmas.Bool.{eq-eqb, ne_eqb, cases_eq, cond-true, cond-false}
@@ -14,7 +14,7 @@ use Rattle.tdm_problem.specs.Legal.{IsEvenRatio}
 use Rattle.recip_sum.specs.Counts.{items}
 use Rattle.recip_sum.specs.Items.{SameReciprocals}
 use Rattle.recip_sum.proofs.Same.{SameReciprocals-refl, SameReciprocals-sym, SameReciprocals-trans, SameReciprocals-cons, SameReciprocals-to_front, SameReciprocals-more, FitsLanes-same}
-use Rattle.solution_eval.specs.Counted.{items_at, CountsRatios}
+use Rattle.solution_eval.specs.Counted.{items_at, CountsRatios, IsWanted}
 use Rattle.solution_eval.specs.Violations.{IsFitting}
 use Rattle.solution_eval.proofs.Filtered.{filter_none}
 
@@ -36,8 +36,8 @@ ratios_elsewhere uses i d e inside other =
     ∙ append-nil (ratios_of (filter (λ u. u.wire == e) (take i uses))))
 
 -- one use more is counted
-pub counted_more : (before counts : List (map.FinMap nat_cmp ℕ)) (x new : map.FinMap nat_cmp ℕ) (uses : List WireUse) (i : ℕ) (d : WireUse) → i < length uses → length counts ≡ length before → (get_or uses i d).wire < length before → SameReciprocals (items new) ((get_or uses i d).ratio ∷ items (get_or counts (get_or uses i d).wire x)) → ((e : ℕ) → e < length before → SameReciprocals (items_at counts e) (items_at before e ++ ratios_of (filter (λ u. u.wire == e) (take i uses)))) → (e : ℕ) → e < length before → SameReciprocals (items_at (slice_set counts (get_or uses i d).wire new) e) (items_at before e ++ ratios_of (filter (λ u. u.wire == e) (take (i + 1) uses)))
-counted_more before counts x new uses i d inside size there same so_far e e_inside =
+pub counted_more : (wanted : List Bool) (before counts : List (map.FinMap nat_cmp ℕ)) (x new : map.FinMap nat_cmp ℕ) (uses : List WireUse) (i : ℕ) (d : WireUse) → i < length uses → length counts ≡ length before → (get_or uses i d).wire < length before → SameReciprocals (items new) ((get_or uses i d).ratio ∷ items (get_or counts (get_or uses i d).wire x)) → ((e : ℕ) → e < length before → IsWanted wanted e → SameReciprocals (items_at counts e) (items_at before e ++ ratios_of (filter (λ u. u.wire == e) (take i uses)))) → (e : ℕ) → e < length before → IsWanted wanted e → SameReciprocals (items_at (slice_set counts (get_or uses i d).wire new) e) (items_at before e ++ ratios_of (filter (λ u. u.wire == e) (take (i + 1) uses)))
+counted_more wanted before counts x new uses i d inside size there same so_far e e_inside e_wanted =
     elim (cases_eq (get_or uses i d).wire e) [
       | inl here ↦
           let at : items_at (slice_set counts (get_or uses i d).wire new) e ≡ items new =
@@ -46,7 +46,7 @@ counted_more before counts x new uses i d inside size there same so_far e e_insi
           ap items (ap (λ (w : ℕ). get_or counts w x) here ∙ get_or_default counts e x map.empty (omega arith)) in
           let step : SameReciprocals (items new) ((get_or uses i d).ratio ∷ items_at counts e) = subst (λ xs. SameReciprocals (items new) ((get_or uses i d).ratio ∷ xs)) was same in
           let more : SameReciprocals (items new) ((items_at before e ++ ratios_of (filter (λ u. u.wire == e) (take i uses))) ++ (get_or uses i d).ratio ∷ []) =
-          SameReciprocals-more (items_at counts e) (items new) (items_at before e ++ ratios_of (filter (λ u. u.wire == e) (take i uses))) (get_or uses i d).ratio (so_far e e_inside) step in
+          SameReciprocals-more (items_at counts e) (items new) (items_at before e ++ ratios_of (filter (λ u. u.wire == e) (take i uses))) (get_or uses i d).ratio (so_far e e_inside e_wanted) step in
           subst (λ xs. SameReciprocals xs (items_at before e ++ ratios_of (filter (λ u. u.wire == e) (take (i + 1) uses)))) (sym at)
           (subst (λ ys. SameReciprocals (items new) ys)
           (append_assoc (items_at before e) (ratios_of (filter (λ u. u.wire == e) (take i uses))) ((get_or uses i d).ratio ∷ []) ∙ ap (λ rs. items_at before e ++ rs) (sym (ratios_here uses i d e inside here)))
@@ -55,8 +55,15 @@ counted_more before counts x new uses i d inside size there same so_far e e_insi
           let at : items_at (slice_set counts (get_or uses i d).wire new) e ≡ items_at counts e =
           ap items (get_or-set_other counts (get_or uses i d).wire e new map.empty (λ same_wire. elsewhere (sym same_wire))) in
           subst (λ xs. SameReciprocals xs (items_at before e ++ ratios_of (filter (λ u. u.wire == e) (take (i + 1) uses)))) (sym at)
-          (subst (λ rs. SameReciprocals (items_at counts e) (items_at before e ++ rs)) (sym (ratios_elsewhere uses i d e inside elsewhere)) (so_far e e_inside))
+          (subst (λ rs. SameReciprocals (items_at counts e) (items_at before e ++ rs)) (sym (ratios_elsewhere uses i d e inside elsewhere)) (so_far e e_inside e_wanted))
     ]
+
+-- a use of a wire that is not wanted is passed over
+pub counted_passed : (wanted : List Bool) (before counts : List (map.FinMap nat_cmp ℕ)) (uses : List WireUse) (i : ℕ) (d : WireUse) → i < length uses → ¬ IsWanted wanted (get_or uses i d).wire → ((e : ℕ) → e < length before → IsWanted wanted e → SameReciprocals (items_at counts e) (items_at before e ++ ratios_of (filter (λ u. u.wire == e) (take i uses)))) → (e : ℕ) → e < length before → IsWanted wanted e → SameReciprocals (items_at counts e) (items_at before e ++ ratios_of (filter (λ u. u.wire == e) (take (i + 1) uses)))
+counted_passed wanted before counts uses i d inside passed so_far e e_inside e_wanted =
+    subst (λ rs. SameReciprocals (items_at counts e) (items_at before e ++ rs))
+    (sym (ratios_elsewhere uses i d e inside (λ same. passed (subst (λ (w : ℕ). IsWanted wanted w) (sym same) e_wanted))))
+    (so_far e e_inside e_wanted)
 
 -- no use before place i has its wire
 none_before : (uses : List WireUse) (i : ℕ) (d : WireUse) → i < length uses → AllPairs (λ x y. x ≢ y) (wires_of uses) → filter (λ u. u.wire == (get_or uses i d).wire) (take i uses) ≡ []
@@ -70,14 +77,14 @@ none_before uses i d inside distinct = filter_none (λ u. u.wire == (get_or uses
     (λ same. distinct k i 0 k_before (omega (arith, length-map uses (λ (u : WireUse). u.wire))) (k_wire ∙ (same ∙ sym i_wire))))
 
 -- at the wire of the use at i there is room still
-pub room_here : (before counts : List (map.FinMap nat_cmp ℕ)) (x : map.FinMap nat_cmp ℕ) (uses : List WireUse) (i : ℕ) (d : WireUse) → i < length uses → length counts ≡ length before → (get_or uses i d).wire < length before → AllPairs (λ x y. x ≢ y) (wires_of uses) → ((e : ℕ) → e < length before → SameReciprocals (items_at counts e) (items_at before e ++ ratios_of (filter (λ u. u.wire == e) (take i uses)))) → ((e : ℕ) → e < length before → length (items_at before e) < 2 ^ 20) → length (items (get_or counts (get_or uses i d).wire x)) < 2 ^ 20
-room_here before counts x uses i d inside size there distinct so_far room =
+pub room_here : (wanted : List Bool) (before counts : List (map.FinMap nat_cmp ℕ)) (x : map.FinMap nat_cmp ℕ) (uses : List WireUse) (i : ℕ) (d : WireUse) → i < length uses → length counts ≡ length before → (get_or uses i d).wire < length before → AllPairs (λ x y. x ≢ y) (wires_of uses) → IsWanted wanted (get_or uses i d).wire → ((e : ℕ) → e < length before → IsWanted wanted e → SameReciprocals (items_at counts e) (items_at before e ++ ratios_of (filter (λ u. u.wire == e) (take i uses)))) → ((e : ℕ) → e < length before → IsWanted wanted e → length (items_at before e) < 2 ^ 20) → length (items (get_or counts (get_or uses i d).wire x)) < 2 ^ 20
+room_here wanted before counts x uses i d inside size there distinct here so_far room =
     let was : items (get_or counts (get_or uses i d).wire x) ≡ items_at counts (get_or uses i d).wire = ap items (get_or_default counts (get_or uses i d).wire x map.empty (omega arith)) in
-    let lengths : length (items_at counts (get_or uses i d).wire) ≡ length (items_at before (get_or uses i d).wire ++ ratios_of (filter (λ u. u.wire == (get_or uses i d).wire) (take i uses))) = (so_far (get_or uses i d).wire there).lengths in
+    let lengths : length (items_at counts (get_or uses i d).wire) ≡ length (items_at before (get_or uses i d).wire ++ ratios_of (filter (λ u. u.wire == (get_or uses i d).wire) (take i uses))) = (so_far (get_or uses i d).wire there here).lengths in
     let none : items_at before (get_or uses i d).wire ++ ratios_of (filter (λ u. u.wire == (get_or uses i d).wire) (take i uses)) ≡ items_at before (get_or uses i d).wire =
     ap (λ us. items_at before (get_or uses i d).wire ++ ratios_of us) (none_before uses i d inside distinct) ∙ append-nil (items_at before (get_or uses i d).wire) in
     let same : length (items (get_or counts (get_or uses i d).wire x)) ≡ length (items_at before (get_or uses i d).wire) = ap length was ∙ (lengths ∙ ap length none) in
-    omega (arith, room (get_or uses i d).wire there)
+    omega (arith, room (get_or uses i d).wire there here)
 
 -- what is counted the same, still is with the same behind it
 same_behind : (xs ys zs : List ℕ) → SameReciprocals xs ys → SameReciprocals (xs ++ zs) (ys ++ zs)
@@ -101,14 +108,14 @@ ratios_on-more routing n uses e inside is =
     ∙ ap (λ rs. ratios_on (take n routing) e ++ rs) (append-nil (ratios_of (filter (λ u. u.wire == e) uses))))
 
 -- one net more is counted
-pub counts_more : (routing : Routing) (n wires : ℕ) (uses : List WireUse) (counts new_counts : List (map.FinMap nat_cmp ℕ)) → n < length routing → uses_of routing n ≡ uses → length new_counts ≡ length counts → ((e : ℕ) → e < length counts → SameReciprocals (items_at new_counts e) (items_at counts e ++ ratios_of (filter (λ u. u.wire == e) uses))) → CountsRatios (take n routing) wires counts → CountsRatios (take (n + 1) routing) wires new_counts
-counts_more routing n wires uses counts new_counts inside is size counted so_far = record {
+pub counts_more : (wanted : List Bool) (routing : Routing) (n wires : ℕ) (uses : List WireUse) (counts new_counts : List (map.FinMap nat_cmp ℕ)) → n < length routing → uses_of routing n ≡ uses → length new_counts ≡ length counts → ((e : ℕ) → e < length counts → IsWanted wanted e → SameReciprocals (items_at new_counts e) (items_at counts e ++ ratios_of (filter (λ u. u.wire == e) uses))) → CountsRatios wanted (take n routing) wires counts → CountsRatios wanted (take (n + 1) routing) wires new_counts
+counts_more wanted routing n wires uses counts new_counts inside is size counted so_far = record {
   whole = size ∙ so_far.whole;
-  each = λ e e_inside.
+  each = λ e e_inside e_wanted.
       subst (λ rs. SameReciprocals (items_at new_counts e) rs) (sym (ratios_on-more routing n uses e inside is))
       (SameReciprocals-trans (items_at new_counts e) (items_at counts e ++ ratios_of (filter (λ u. u.wire == e) uses)) (ratios_on (take n routing) e ++ ratios_of (filter (λ u. u.wire == e) uses))
-      (counted e (omega (arith, so_far.whole)))
-      (same_behind (items_at counts e) (ratios_on (take n routing) e) (ratios_of (filter (λ u. u.wire == e) uses)) (so_far.each e e_inside)));
+      (counted e (omega (arith, so_far.whole)) e_wanted)
+      (same_behind (items_at counts e) (ratios_on (take n routing) e) (ratios_of (filter (λ u. u.wire == e) uses)) (so_far.each e e_inside e_wanted)));
 }
 
 -- a net has a wire at most once
@@ -129,7 +136,7 @@ at_most_once (u ∷ uses) e distinct =
     ]
 
 -- a wire has no more ratios than there are nets
-ratios_on-few : (routing : Routing) (e : ℕ) → All (λ uses. AllPairs (λ x y. x ≢ y) (wires_of uses)) routing → length (ratios_on routing e) ≤ length routing
+pub ratios_on-few : (routing : Routing) (e : ℕ) → All (λ uses. AllPairs (λ x y. x ≢ y) (wires_of uses)) routing → length (ratios_on routing e) ≤ length routing
 ratios_on-few [] e distinct = omega arith
 ratios_on-few (uses ∷ routing) e distinct =
     let here : length (filter (λ u. u.wire == e) uses) ≤ 1 = at_most_once uses e (All-head (λ us. AllPairs (λ x y. x ≢ y) (wires_of us)) uses routing distinct) in
@@ -137,12 +144,12 @@ ratios_on-few (uses ∷ routing) e distinct =
     omega (arith, length-append (ratios_of (filter (λ u. u.wire == e) uses)) (ratios_on routing e), length-map (filter (λ u. u.wire == e) uses) (λ (u : WireUse). u.ratio))
 
 -- the nets before net n leave room for one ratio more on each wire
-pub room_at : (routing : Routing) (n wires : ℕ) (counts handed : List (map.FinMap nat_cmp ℕ)) → n < length routing → length routing ≤ 2 ^ 20 → All (λ uses. AllPairs (λ x y. x ≢ y) (wires_of uses)) routing → handed ≡ counts → CountsRatios (take n routing) wires counts → (e : ℕ) → e < length handed → length (items_at handed e) < 2 ^ 20
-room_at routing n wires counts handed inside few distinct is so_far e e_inside =
+pub room_at : (wanted : List Bool) (routing : Routing) (n wires : ℕ) (counts handed : List (map.FinMap nat_cmp ℕ)) → n < length routing → length routing ≤ 2 ^ 20 → All (λ uses. AllPairs (λ x y. x ≢ y) (wires_of uses)) routing → handed ≡ counts → CountsRatios wanted (take n routing) wires counts → (e : ℕ) → e < length handed → IsWanted wanted e → length (items_at handed e) < 2 ^ 20
+room_at wanted routing n wires counts handed inside few distinct is so_far e e_inside e_wanted =
     let e_there : e < wires = omega (arith, ap length is, so_far.whole) in
     let most : length (ratios_on (take n routing) e) ≤ length (take n routing) =
     ratios_on-few (take n routing) e (All-take (λ uses. AllPairs (λ x y. x ≢ y) (wires_of uses)) n routing distinct) in
-    omega (arith, ap (λ cs. length (items_at cs e)) is, (so_far.each e e_there).lengths, length-take n routing)
+    omega (arith, ap (λ cs. length (items_at cs e)) is, (so_far.each e e_there e_wanted).lengths, length-take n routing)
 
 -- the ratios of a net are positive where they are even
 pub positive_ratios : (uses row : List WireUse) → uses ≡ row → All IsEvenRatio (ratios_of uses) → All (λ (u : WireUse). 0 < u.ratio) row
@@ -153,10 +160,10 @@ positive_ratios uses row is even = λ k d inside.
     omega (arith, half.1, half.2, get_or-map (λ (u : WireUse). u.ratio) row k d 0 inside)
 
 -- one more wire without items
-pub no_counts_more : (n : ℕ) (counts new_counts : List (map.FinMap nat_cmp ℕ)) (none : map.FinMap nat_cmp ℕ) → new_counts ≡ counts ++ none ∷ [] → items none ≡ [] → CountsRatios [] n counts → CountsRatios [] (n + 1) new_counts
-no_counts_more n counts new_counts none is empty so_far = record {
+pub no_counts_more : (wanted : List Bool) (n : ℕ) (counts new_counts : List (map.FinMap nat_cmp ℕ)) (none : map.FinMap nat_cmp ℕ) → new_counts ≡ counts ++ none ∷ [] → items none ≡ [] → CountsRatios wanted [] n counts → CountsRatios wanted [] (n + 1) new_counts
+no_counts_more wanted n counts new_counts none is empty so_far = record {
   whole = ap length is ∙ (length_push counts none ∙ omega (arith, so_far.whole));
-  each = λ e inside. elim (cases_eq e n) [
+  each = λ e inside e_wanted. elim (cases_eq e n) [
     | inl last ↦
         let at : items_at new_counts e ≡ [] =
         ap (λ cs. items_at cs e) is ∙ (ap (λ (k : ℕ). items_at (counts ++ none ∷ []) k) last ∙ (ap items (get_or_push counts none map.empty n so_far.whole) ∙ empty)) in
@@ -164,12 +171,12 @@ no_counts_more n counts new_counts none is empty so_far = record {
     | inr earlier ↦
         let at : items_at new_counts e ≡ items_at counts e =
         ap (λ cs. items_at cs e) is ∙ ap items (get_or_append_left counts (none ∷ []) map.empty e (omega (arith, so_far.whole))) in
-        subst (λ xs. SameReciprocals xs []) (sym at) (so_far.each e (omega arith))
+        subst (λ xs. SameReciprocals xs []) (sym at) (so_far.each e (omega arith) e_wanted)
   ];
 }
 
-pub no_counts_none : (counts : List (map.FinMap nat_cmp ℕ)) → counts ≡ [] → CountsRatios [] 0 counts
-no_counts_none counts is = record { whole = ap length is; each = λ e inside. absurd (omega arith) }
+pub no_counts_none : (wanted : List Bool) (counts : List (map.FinMap nat_cmp ℕ)) → counts ≡ [] → CountsRatios wanted [] 0 counts
+no_counts_none wanted counts is = record { whole = ap length is; each = λ e inside e_wanted. absurd (omega arith) }
 
 -- a wire fits where its items fit, and the other way round
 pub fitting_here : (board : Board) (routing : Routing) (counts : List (map.FinMap nat_cmp ℕ)) (x : map.FinMap nat_cmp ℕ) (e : ℕ) → e < length counts → SameReciprocals (items_at counts e) (ratios_on routing e) → FitsLanes (items (get_or counts e x)) 1 → IsFitting board routing e

@@ -6,3 +6,4 @@ pub mod SpentSums
 pub mod Proposals
 pub mod SureSteps
 pub mod Worth
+pub mod Doubts

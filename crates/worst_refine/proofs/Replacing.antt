@@ -1,6 +1,6 @@
 -- What lowering one ratio does to all that the pass keeps.
 use Rattle.std.proofs.Common.{◌≡◌, ℕ, ◌+◌, ◌-◌, ◌<◌, ◌≤◌, List, [], ◌∷◌, ◌++◌, length, All, arith, refl, sym, ap, subst, inl, inr, ◌∙◌}
-use Rattle.std.specs.Prelude.{true, cond, slice_index, slice_index_or, slice_set, count_by, ◌==◌}
+use Rattle.std.specs.Prelude.{Bool, true, cond, slice_index, slice_index_or, slice_set, count_by, ◌==◌}
 use Rattle.std.specs.Ordering.{nat_cmp}
 use Rattle.std.specs.FinMap as map
 use Rattle.std.proofs.lemmas.Bool.{cases_eq, cases_lt, eq-eqb}
@@ -19,10 +19,10 @@ use Rattle.recip_sum.specs.Items.{SameReciprocals}
 use Rattle.recip_sum.specs.Rounded.{floor_of, floor_sum}
 use Rattle.recip_sum.proofs.Same.{SameReciprocals-sym, SameReciprocals-trans, SameReciprocals-cons, SameReciprocals-to_front, SameReciprocals-cancel, FitsLanes-same}
 use Rattle.recip_sum.proofs.RoundedSums.{floors-fit}
-use Rattle.solution_eval.specs.Counted.{items_at, CountsRatios}
+use Rattle.solution_eval.specs.Counted.{items_at, CountsRatios, IsWanted}
 use Rattle.worst_refine.specs.Fitting.{HasFittingRatios}
 use Rattle.worst_refine.specs.Lowered.{IsLowered}
-use Rattle.worst_refine.specs.Steps.{CannotBeLowered, FloorsTell, IsReplaced, IsStep}
+use Rattle.worst_refine.specs.Steps.{AreInDoubt, CannotBeLowered, FloorsTell, IsReplaced, IsStep}
 use Rattle.worst_refine.proofs.Places.{StandsIn, stands_on, ratios_elsewhere, sum_put, ratio_here, ratio_beside, ratio_of_other_net}
 use Rattle.worst_refine.proofs.Lowering.{IsLowered-refl, IsLowered-trans, IsLowered-with_ratio, positive_on, positive_put, positive_ratios, same_uses, HasFittingRatios-put, CannotBeLowered-lowered}
 
@@ -55,7 +55,7 @@ other_beside before after ratio other rest positive h same =
     (SameReciprocals-trans (h.front ++ other ∷ h.back) (other ∷ front_back) (other ∷ rest) (SameReciprocals-to_front h.front other h.back)
     (SameReciprocals-cons other front_back rest (SameReciprocals-cancel ratio front_back rest positive was)))
 
-module _ (wires : ℕ) (routing : Routing) (counts : List (map.FinMap nat_cmp ℕ)) (n place : ℕ) (there : n < length routing) (place_there : place < length (uses_of routing n)) (fitting : HasFittingRatios wires routing) (counted : CountsRatios routing wires counts) (wire ratio : ℕ) (at : wire_at routing n place ≡ wire) (has : ratio_at routing n place ≡ ratio) (inside : wire < wires) where
+module _ (wires : ℕ) (doubtful : List Bool) (routing : Routing) (counts : List (map.FinMap nat_cmp ℕ)) (n place : ℕ) (there : n < length routing) (place_there : place < length (uses_of routing n)) (fitting : HasFittingRatios wires routing) (counted : CountsRatios doubtful routing wires counts) (wire ratio : ℕ) (at : wire_at routing n place ≡ wire) (has : ratio_at routing n place ≡ ratio) (inside : wire < wires) (wanted : IsWanted doubtful wire) where
   stands : StandsIn (ratios_on routing wire) (λ r. ratios_on (with_ratio routing n place r) wire) ratio
   stands = subst (λ r. StandsIn (ratios_on routing wire) (λ r. ratios_on (with_ratio routing n place r) wire) r) has (stands_on routing n place wire there place_there at)
 
@@ -65,13 +65,13 @@ module _ (wires : ℕ) (routing : Routing) (counts : List (map.FinMap nat_cmp �
       let h = stands in
       let is : (ratio == ratio) ≡ true = eq-eqb ratio ratio refl in
       let here : cond {A = ℕ} (ratio == ratio) 1 0 ≡ 1 = ap (λ b. cond {A = ℕ} b 1 0) is in
-      omega (arith, here, (counted.each wire inside).parts (λ r. cond (r == ratio) 1 0), ap (count_by (λ r. r == ratio)) h.is, sum_by-append (λ r. cond (r == ratio) 1 0) h.front (ratio ∷ h.back), sum_by-cons (λ r. cond (r == ratio) 1 0) ratio h.back)
+      omega (arith, here, (counted.each wire inside wanted).parts (λ r. cond (r == ratio) 1 0), ap (count_by (λ r. r == ratio)) h.is, sum_by-append (λ r. cond (r == ratio) 1 0) h.front (ratio ∷ h.back), sum_by-cons (λ r. cond (r == ratio) 1 0) ratio h.back)
 
   -- the items of its wire fit
   pub items_fit : FitsLanes (items_at counts wire) 1
-  items_fit = FitsLanes-same (ratios_on routing wire) (items_at counts wire) 1 (SameReciprocals-sym _ _ (counted.each wire inside)) (fitting.fits wire inside)
+  items_fit = FitsLanes-same (ratios_on routing wire) (items_at counts wire) 1 (SameReciprocals-sym _ _ (counted.each wire inside wanted)) (fitting.fits wire inside)
 
-  pub step_told : FloorsTell (floor_sum (items_at counts wire)) ratio → IsStep wires routing routing counts n place (place + 1)
+  pub step_told : FloorsTell (floor_sum (items_at counts wire)) ratio → IsStep wires doubtful routing routing counts n place (place + 1)
   step_told told = record {
     fitting = fitting;
     lowered = IsLowered-refl routing;
@@ -84,7 +84,7 @@ module _ (wires : ℕ) (routing : Routing) (counts : List (map.FinMap nat_cmp �
         let now : FitsLanes list 1 = subst (λ e. FitsLanes (ratios_on (with_ratio routing n place lower) e) 1) at fits in
         let most = floors-fit list 1 (positive_on (with_ratio routing n place lower) wire (positive_put routing n place lower (omega arith) (positive_ratios routing fitting.even))) now in
         let sum = sum_put floor_of (ratios_on routing wire) (λ r. ratios_on (with_ratio routing n place r) wire) ratio lower stands in
-        let all = (counted.each wire inside).parts floor_of in
+        let all = (counted.each wire inside wanted).parts floor_of in
         let tell = told (omega (arith, has, above)) in
         let low_part : floor_of lower ≡ floor_of (ratio - 2) = ap (λ r. floor_of (r - 2)) has in
         absurd (omega (arith, most, sum, all, tell, low_part)));
@@ -99,7 +99,7 @@ module _ (wires : ℕ) (routing : Routing) (counts : List (map.FinMap nat_cmp �
     new_positive = let h = r.least.even in let p = h.1 in let e = h.2 in omega arith
 
     was_list : SameReciprocals (ratios_on routing wire) (ratio ∷ r.rest)
-    was_list = SameReciprocals-trans (ratios_on routing wire) (items_at counts wire) (ratio ∷ r.rest) (SameReciprocals-sym _ _ (counted.each wire inside)) (SameReciprocals-sym _ _ r.was)
+    was_list = SameReciprocals-trans (ratios_on routing wire) (items_at counts wire) (ratio ∷ r.rest) (SameReciprocals-sym _ _ (counted.each wire inside wanted)) (SameReciprocals-sym _ _ r.was)
 
     new_list : SameReciprocals (ratios_on (with_ratio routing n place new) wire) (new ∷ r.rest)
     new_list = other_beside (ratios_on routing wire) (λ r. ratios_on (with_ratio routing n place r) wire) ratio new r.rest positive stands was_list
@@ -119,16 +119,16 @@ module _ (wires : ℕ) (routing : Routing) (counts : List (map.FinMap nat_cmp �
     pub fitting_here : HasFittingRatios wires (with_ratio routing n place new)
     fitting_here = HasFittingRatios-put wires routing n place new there place_there fitting r.least.even new_fits
 
-    counted_here : CountsRatios (with_ratio routing n place new) wires (slice_set counts wire counts_new)
+    counted_here : CountsRatios doubtful (with_ratio routing n place new) wires (slice_set counts wire counts_new)
     counted_here = record {
       whole = length-set counts wire counts_new ∙ counted.whole;
-      each = λ e e_inside. elim (cases_eq wire e) [
+      each = λ e e_inside e_wanted. elim (cases_eq wire e) [
         | inl same ↦ subst (λ k. SameReciprocals (items_at (slice_set counts wire counts_new) k) (ratios_on (with_ratio routing n place new) k)) same
             (subst (λ c. SameReciprocals (items c) (ratios_on (with_ratio routing n place new) wire)) (sym (get_or-set_same counts wire counts_new map.empty (omega (arith, counted.whole))))
             (SameReciprocals-trans (items counts_new) (new ∷ r.rest) _ r.now (SameReciprocals-sym _ _ new_list)))
         | inr other ↦
             subst (λ c. SameReciprocals (items c) (ratios_on (with_ratio routing n place new) e)) (sym (get_or-set_other counts wire e counts_new map.empty (λ same. other (sym same))))
-            (subst (λ l. SameReciprocals (items_at counts e) l) (sym (ratios_elsewhere routing n place new e there place_there (λ same. other (sym at ∙ same)))) (counted.each e e_inside))
+            (subst (λ l. SameReciprocals (items_at counts e) l) (sym (ratios_elsewhere routing n place new e there place_there (λ same. other (sym at ∙ same)))) (counted.each e e_inside e_wanted))
       ];
     }
 
@@ -159,7 +159,7 @@ module _ (wires : ℕ) (routing : Routing) (counts : List (map.FinMap nat_cmp �
           ]
         ]
 
-    pub step_replaced : IsStep wires routing (with_ratio routing n place new) (slice_set counts wire counts_new) n place (place + 1)
+    pub step_replaced : IsStep wires doubtful routing (with_ratio routing n place new) (slice_set counts wire counts_new) n place (place + 1)
     step_replaced = record {
       fitting = fitting_here;
       lowered = lowered_here;
@@ -169,8 +169,8 @@ module _ (wires : ℕ) (routing : Routing) (counts : List (map.FinMap nat_cmp �
     }
 
 -- no step yet
-pub step_none : (wires : ℕ) (routing : Routing) (counts : List (map.FinMap nat_cmp ℕ)) (n start : ℕ) → HasFittingRatios wires routing → CountsRatios routing wires counts → IsStep wires routing routing counts n start start
-step_none wires routing counts n start fitting counted = record {
+pub step_none : (wires : ℕ) (doubtful : List Bool) (routing : Routing) (counts : List (map.FinMap nat_cmp ℕ)) (n start : ℕ) → HasFittingRatios wires routing → CountsRatios doubtful routing wires counts → IsStep wires doubtful routing routing counts n start start
+step_none wires doubtful routing counts n start fitting counted = record {
   fitting = fitting;
   lowered = IsLowered-refl routing;
   counted = counted;
@@ -179,8 +179,8 @@ step_none wires routing counts n start fitting counted = record {
 }
 
 -- one step after another
-pub step_more : (wires : ℕ) (old mid new : Routing) (counts_mid counts : List (map.FinMap nat_cmp ℕ)) (n start middle end : ℕ) → n < length old → middle ≤ length (uses_of old n) → IsStep wires old mid counts_mid n start middle → IsStep wires mid new counts n middle end → IsStep wires old new counts n start end
-step_more wires old mid new counts_mid counts n start middle end there within h i = record {
+pub step_more : (wires : ℕ) (doubtful : List Bool) (old mid new : Routing) (counts_mid counts : List (map.FinMap nat_cmp ℕ)) (n start middle end : ℕ) → n < length old → middle ≤ length (uses_of old n) → IsStep wires doubtful old mid counts_mid n start middle → IsStep wires doubtful mid new counts n middle end → IsStep wires doubtful old new counts n start end
+step_more wires doubtful old mid new counts_mid counts n start middle end there within h i = record {
   fitting = i.fitting;
   lowered = IsLowered-trans old mid new h.lowered i.lowered;
   counted = i.counted;
@@ -192,21 +192,41 @@ step_more wires old mid new counts_mid counts n start middle end there within h 
       i.kept m place (omega (arith, h.lowered.nets)) (omega (arith, same_uses old mid m (h.lowered.wires m))) (h.kept m place m_there place_there tight);
 }
 
+-- a use on a wire that is not in doubt is passed over
+pub step_passed : (wires : ℕ) (doubtful : List Bool) (routing : Routing) (counts : List (map.FinMap nat_cmp ℕ)) (n place : ℕ) → HasFittingRatios wires routing → CountsRatios doubtful routing wires counts → CannotBeLowered routing n place → IsStep wires doubtful routing routing counts n place (place + 1)
+step_passed wires doubtful routing counts n place fitting counted tight = record {
+  fitting = fitting;
+  lowered = IsLowered-refl routing;
+  counted = counted;
+  here = λ q low high. subst (λ k. CannotBeLowered routing n k) (let same : place ≡ q = omega arith in same) tight;
+  kept = λ m q _ _ still. still;
+}
+
+-- after a step ratios that can be lowered stand on wires in doubt as before
+pub in_doubt_kept : (wires : ℕ) (doubtful : List Bool) (old new : Routing) (counts : List (map.FinMap nat_cmp ℕ)) (n start end : ℕ) → IsStep wires doubtful old new counts n start end → AreInDoubt doubtful old → AreInDoubt doubtful new
+in_doubt_kept wires doubtful old new counts n start end step in_doubt = λ m place there place_there certain.
+    let m_there : m < length old = omega (arith, there, step.lowered.nets) in
+    let q_there : place < length (uses_of old m) = omega (arith, place_there, same_uses old new m (step.lowered.wires m)) in
+    let wire : wire_at new m place ≡ wire_at old m place = ap (λ ws. slice_index ws place) (step.lowered.wires m) in
+    step.kept m place m_there q_there (in_doubt m place m_there q_there (subst (λ (w : ℕ). ¬ IsWanted doubtful w) wire certain))
+
 -- what the pass over the nets keeps
-pub record IsPass (wires : ℕ) (old new : Routing) (counts : List (map.FinMap nat_cmp ℕ)) (done : ℕ) : Type 0 where
+pub record IsPass (wires : ℕ) (doubtful : List Bool) (old new : Routing) (counts : List (map.FinMap nat_cmp ℕ)) (done : ℕ) : Type 0 where
   pub fitting : HasFittingRatios wires new
   pub lowered : IsLowered old new
-  pub counted : CountsRatios new wires counts
+  pub counted : CountsRatios doubtful new wires counts
+  pub in_doubt : AreInDoubt doubtful new
   pub tight : (m place : ℕ) → m < done → place < length (uses_of new m) → CannotBeLowered new m place
 
-pub pass_none : (wires : ℕ) (routing : Routing) (counts : List (map.FinMap nat_cmp ℕ)) → HasFittingRatios wires routing → CountsRatios routing wires counts → IsPass wires routing routing counts 0
-pass_none wires routing counts fitting counted = record { fitting = fitting; lowered = IsLowered-refl routing; counted = counted; tight = λ m place before there. absurd (omega arith) }
+pub pass_none : (wires : ℕ) (doubtful : List Bool) (routing : Routing) (counts : List (map.FinMap nat_cmp ℕ)) → HasFittingRatios wires routing → CountsRatios doubtful routing wires counts → AreInDoubt doubtful routing → IsPass wires doubtful routing routing counts 0
+pass_none wires doubtful routing counts fitting counted in_doubt = record { fitting = fitting; lowered = IsLowered-refl routing; counted = counted; in_doubt = in_doubt; tight = λ m place before there. absurd (omega arith) }
 
-pub pass_more : (wires : ℕ) (old mid new : Routing) (counts_mid counts : List (map.FinMap nat_cmp ℕ)) (n : ℕ) → n < length mid → IsPass wires old mid counts_mid n → IsStep wires mid new counts n 0 (length (uses_of mid n)) → IsPass wires old new counts (n + 1)
-pass_more wires old mid new counts_mid counts n there h i = record {
+pub pass_more : (wires : ℕ) (doubtful : List Bool) (old mid new : Routing) (counts_mid counts : List (map.FinMap nat_cmp ℕ)) (n : ℕ) → n < length mid → IsPass wires doubtful old mid counts_mid n → IsStep wires doubtful mid new counts n 0 (length (uses_of mid n)) → IsPass wires doubtful old new counts (n + 1)
+pass_more wires doubtful old mid new counts_mid counts n there h i = record {
   fitting = i.fitting;
   lowered = IsLowered-trans old mid new h.lowered i.lowered;
   counted = i.counted;
+  in_doubt = in_doubt_kept wires doubtful mid new counts n 0 (length (uses_of mid n)) i h.in_doubt;
   tight = λ m place before place_there.
       let within : place < length (uses_of mid m) = omega (arith, same_uses mid new m (i.lowered.wires m)) in
       elim (cases_eq m n) [

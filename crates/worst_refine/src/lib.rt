@@ -3,6 +3,7 @@
 
 #[cfg(test)]
 mod definitions;
+mod doubt;
 mod numbers;
 mod prices;
 mod proposed;

@@ -18,7 +18,8 @@ use tdm_problem::{MAX_WIRES, Problem, Solution};
 /// The half of the greatest even ratio.
 const MOST_HALF: u64 = (1 << 31) - 1;
 
-/// Lowers ratios of nets, those of the worst groups first, as far as the reciprocals rounded up leave room.
+/// Lowers ratios of nets, those of the worst groups first, as far as the reciprocals rounded up leave room. Answers what the
+/// ratios then spend of each wire.
 ///
 /// The only error is want of memory.
 pub(crate) fn lower_surely(
@@ -26,19 +27,20 @@ pub(crate) fn lower_surely(
     problem: &Problem,
     incidence: &Incidence,
     solution: &mut Solution,
-) -> Result<(), AllocError>
+) -> Result<Vec<u128>, AllocError>
     requires incidence { IsIncidenceOf problem.now incidence.now }
     requires paired { length solution.old ≡ length problem.now.nets }
     requires fitting { HasFittingRatios (length problem.now.wires) solution.old }
     ensures fitting { HasFittingRatios (length problem.now.wires) solution.new }
     ensures lowered { IsLowered solution.old solution.new }
+    ensures spent { IfOk result (λ spent. IsSpent solution.new (length problem.now.wires) spent.items) }
 {
     prove!(problem.wires() <= MAX_WIRES);
     let groups = worst_groups(alloc, problem, incidence, solution)?;
     let mut spent = spent_on_wires(alloc, problem.wires(), solution)?;
     lower_groups(&mut spent, solution, problem, &groups);
     lower_all(&mut spent, solution);
-    Ok(())
+    Ok(spent)
 }
 
 /// Lowers ratios of the nets of these groups.

@@ -12,8 +12,9 @@ ghost use Rattle.recip_sum.specs.Rounded.{floor_sum};
 ghost use Rattle.solution_eval.specs.Counted.{CountsRatios};
 ghost use Rattle.worst_refine.specs.Fitting.{HasFittingRatios};
 ghost use Rattle.worst_refine.specs.Lowered.{IsLowered};
-ghost use Rattle.worst_refine.specs.Steps.{CannotBeLowered, FloorsTell, IsReplaced, IsStep};
+ghost use Rattle.worst_refine.specs.Steps.{AreInDoubt, CannotBeLowered, FloorsTell, IsReplaced, IsStep};
 
+use crate::doubt::wires_in_doubt;
 use crate::sure::lower_surely;
 use net_groups::Incidence;
 use recip_sum::{Counts, floor_of_reciprocal, items_are_counted};
@@ -26,8 +27,9 @@ use tdm_problem::{MAX_WIRES, Problem, Solution};
 ///
 /// A cheap pass comes first, in which ratios of nets of the worst groups are lowered before others, as far as reciprocals
 /// rounded up leave room. One exact pass over all uses is then enough: a ratio that is lowered leaves less room for the
-/// others, so that one which could not be lowered still cannot. A use is passed over where the reciprocals rounded
-/// down tell that its ratio is the least.
+/// others, so that one which could not be lowered still cannot. It counts ratios on those wires alone of which the
+/// reciprocals rounded up do not tell that none can be lowered. There a use is passed over where the reciprocals rounded down
+/// tell that its ratio is the least.
 ///
 /// The only error is want of memory, after which all of this holds but that none can be lowered.
 pub fn tighten(
@@ -43,43 +45,57 @@ pub fn tighten(
     ensures value { value_of problem.now solution.new ≤ value_of problem.now solution.old }
     ensures tight { OnOk result (IsTight problem.now solution.new) }
 {
-    lower_surely(alloc, problem, incidence, solution)?;
+    let spent = lower_surely(alloc, problem, incidence, solution)?;
     prove!(problem.wires() <= MAX_WIRES);
-    let mut counts = count_ratios(alloc, problem, solution)?;
-    tighten_nets(&mut counts, solution)
+    let doubtful = wires_in_doubt(alloc, &spent, solution)?;
+    let mut counts = count_ratios(alloc, problem, solution, &doubtful)?;
+    tighten_nets(&mut counts, &doubtful, solution)
 }
 
-/// Lowers the ratios of all nets. The counts are of the ratios on each wire.
-fn tighten_nets(counts: &mut [Counts], solution: &mut Solution) -> Result<(), AllocError>
+/// Lowers the ratios of all nets. The counts are of the ratios on each wire that is in doubt.
+fn tighten_nets(
+    counts: &mut [Counts],
+    doubtful: &[bool],
+    solution: &mut Solution,
+) -> Result<(), AllocError>
     requires few { length counts.old ≤ most_wires }
     requires fitting { HasFittingRatios (length counts.old) solution.old }
-    requires counted { CountsRatios solution.old (length counts.old) counts.old }
+    requires counted { CountsRatios doubtful.now solution.old (length counts.old) counts.old }
+    requires doubtful { length doubtful.now ≡ length counts.old }
+    requires in_doubt { AreInDoubt doubtful.now solution.old }
     ensures fitting { HasFittingRatios (length counts.old) solution.new }
     ensures lowered { IsLowered solution.old solution.new }
     ensures tight { OnOk result ((n place : ℕ) → n < length solution.new
         → place < length (uses_of solution.new n) → CannotBeLowered solution.new n place) }
 {
     for n in 0..solution.nets() {
-        tighten_net(counts, solution, n)?;
+        tighten_net(counts, doubtful, solution, n)?;
     }
     Ok(())
 }
 
 /// Lowers the ratios of one net.
-fn tighten_net(counts: &mut [Counts], solution: &mut Solution, n: u32) -> Result<(), AllocError>
+fn tighten_net(
+    counts: &mut [Counts],
+    doubtful: &[bool],
+    solution: &mut Solution,
+    n: u32,
+) -> Result<(), AllocError>
     requires few { length counts.old ≤ most_wires }
     requires fitting { HasFittingRatios (length counts.old) solution.old }
-    requires counted { CountsRatios solution.old (length counts.old) counts.old }
+    requires counted { CountsRatios doubtful.now solution.old (length counts.old) counts.old }
+    requires doubtful { length doubtful.now ≡ length counts.old }
+    requires in_doubt { AreInDoubt doubtful.now solution.old }
     requires there { n < length solution.old }
     ensures size { length counts.new ≡ length counts.old }
     ensures fitting { HasFittingRatios (length counts.old) solution.new }
     ensures lowered { IsLowered solution.old solution.new }
-    ensures step { OnOk result (IsStep (length counts.old) solution.old solution.new counts.new n 0
+    ensures step { OnOk result (IsStep (length counts.old) doubtful.now solution.old solution.new counts.new n 0
         (length (uses_of solution.old n))) }
 {
     let places = solution.uses(n).len() as u32;
     for place in 0..places {
-        tighten_use(counts, solution, n, place)?;
+        tighten_use(counts, doubtful, solution, n, place)?;
     }
     Ok(())
 }
@@ -87,22 +103,28 @@ fn tighten_net(counts: &mut [Counts], solution: &mut Solution, n: u32) -> Result
 /// Lowers the ratio at a place of a net to the least that fits beside the other ratios on its wire.
 fn tighten_use(
     counts: &mut [Counts],
+    doubtful: &[bool],
     solution: &mut Solution,
     n: u32,
     place: u32,
 ) -> Result<(), AllocError>
     requires fitting { HasFittingRatios (length counts.old) solution.old }
-    requires counted { CountsRatios solution.old (length counts.old) counts.old }
+    requires counted { CountsRatios doubtful.now solution.old (length counts.old) counts.old }
+    requires doubtful { length doubtful.now ≡ length counts.old }
+    requires in_doubt { AreInDoubt doubtful.now solution.old }
     requires there { n < length solution.old }
     requires place_there { place < length (uses_of solution.old n) }
     ensures size { length counts.new ≡ length counts.old }
     ensures fitting { HasFittingRatios (length counts.old) solution.new }
     ensures lowered { IsLowered solution.old solution.new }
     ensures step { OnOk result
-        (IsStep (length counts.old) solution.old solution.new counts.new n place (place + 1)) }
+        (IsStep (length counts.old) doubtful.now solution.old solution.new counts.new n place (place + 1)) }
 {
     let wire_use = solution.uses(n)[place as usize];
     let wire = wire_use.wire as usize;
+    if !doubtful[wire] {
+        return Ok(());
+    }
     if floors_tell(&counts[wire], wire_use.ratio) {
         return Ok(());
     }

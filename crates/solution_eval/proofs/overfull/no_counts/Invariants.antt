@@ -1,6 +1,6 @@
-use Rattle.std.proofs.Common.{[]}
+use Rattle.std.proofs.Common.{Bool, List, []}
 use Rattle.solution_eval.specs.Counted.{CountsRatios}
 use Rattle.solution_eval.proofs.overfull.no_counts.Given as goal
 
 abbrev pub invariant-loop : goal.invariant-loop
-invariant-loop l = CountsRatios [] l.counter l.counts.items
+invariant-loop l = (wanted : List Bool) → CountsRatios wanted [] l.counter l.counts.items

@@ -18,12 +18,16 @@ tighten_nets-requires-clause-few c =
     omega (arith, size, limit)
 
 -- after want of memory the first pass alone has lowered ratios
-pub returns-in_err-lower_surely-clause-legal : goal.returns-in_err-lower_surely-clause-legal
-returns-in_err-lower_surely-clause-legal c =
+pub returns-in_err-spent-clause-legal : goal.returns-in_err-spent-clause-legal
+returns-in_err-spent-clause-legal c =
     IsLegal-lowered c.args.problem.now c.args.solution.now c.lower_surely.new.solution c.requires.legal c.lower_surely.ensures.lowered c.lower_surely.ensures.fitting
 
 pub returns-in_err-counts-clause-legal : goal.returns-in_err-counts-clause-legal
 returns-in_err-counts-clause-legal c =
+    IsLegal-lowered c.args.problem.now c.args.solution.now c.lower_surely.new.solution c.requires.legal c.lower_surely.ensures.lowered c.lower_surely.ensures.fitting
+
+pub returns-in_err-doubtful-clause-legal : goal.returns-in_err-doubtful-clause-legal
+returns-in_err-doubtful-clause-legal c =
     IsLegal-lowered c.args.problem.now c.args.solution.now c.lower_surely.new.solution c.requires.legal c.lower_surely.ensures.lowered c.lower_surely.ensures.fitting
 
 -- lower ratios have no greater value
@@ -32,8 +36,11 @@ returns-clause-value c =
     value_lowered c.args.problem.now c.args.solution.now c.tighten_nets.new.solution
     (IsLowered-trans c.args.solution.now c.lower_surely.new.solution c.tighten_nets.new.solution c.lower_surely.ensures.lowered c.tighten_nets.ensures.lowered)
 
-pub returns-in_err-lower_surely-clause-value : goal.returns-in_err-lower_surely-clause-value
-returns-in_err-lower_surely-clause-value c = value_lowered c.args.problem.now c.args.solution.now c.lower_surely.new.solution c.lower_surely.ensures.lowered
+pub returns-in_err-spent-clause-value : goal.returns-in_err-spent-clause-value
+returns-in_err-spent-clause-value c = value_lowered c.args.problem.now c.args.solution.now c.lower_surely.new.solution c.lower_surely.ensures.lowered
 
 pub returns-in_err-counts-clause-value : goal.returns-in_err-counts-clause-value
 returns-in_err-counts-clause-value c = value_lowered c.args.problem.now c.args.solution.now c.lower_surely.new.solution c.lower_surely.ensures.lowered
+
+pub returns-in_err-doubtful-clause-value : goal.returns-in_err-doubtful-clause-value
+returns-in_err-doubtful-clause-value c = value_lowered c.args.problem.now c.args.solution.now c.lower_surely.new.solution c.lower_surely.ensures.lowered

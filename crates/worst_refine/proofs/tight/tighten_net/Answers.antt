@@ -10,9 +10,9 @@ loop-place-preserved c =
     let l = c.loop-place in
     let size = l.invariant.0 in
     let within : l.place ≤ length (uses_of c.args.solution.now c.args.n) = omega (arith, ap length c.uses.ensures.value) in
-    let step = subst (λ (k : ℕ). IsStep k l.solution c.tighten_use.new.solution c.tighten_use.new.counts c.args.n l.place (l.place + 1)) size c.in_ok-tighten_use.ensures.step in (
+    let step = subst (λ (k : ℕ). IsStep k c.args.doubtful.now l.solution c.tighten_use.new.solution c.tighten_use.new.counts c.args.n l.place (l.place + 1)) size c.in_ok-tighten_use.ensures.step in (
       c.tighten_use.ensures.size ∙ size,
-      step_more (length c.args.counts.now) c.args.solution.now l.solution c.tighten_use.new.solution l.counts c.tighten_use.new.counts c.args.n 0 l.place (l.place + 1) c.requires.there within l.invariant.1 step,
+      step_more (length c.args.counts.now) c.args.doubtful.now c.args.solution.now l.solution c.tighten_use.new.solution l.counts c.tighten_use.new.counts c.args.n 0 l.place (l.place + 1) c.requires.there within l.invariant.1 step,
     )
 
 pub overflow_cast-places : goal.overflow_cast-places

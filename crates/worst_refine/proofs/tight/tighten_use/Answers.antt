@@ -7,6 +7,7 @@ use Rattle.tdm_problem.specs.Legal.{IsEvenRatio}
 use Rattle.tdm_problem.specs.Routing.{Routing}
 use Rattle.recip_sum.specs.Counts.{items}
 use Rattle.recip_sum.specs.Rounded.{floor_sum}
+use Rattle.solution_eval.specs.Counted.{IsWanted}
 use Rattle.worst_refine.specs.Fitting.{HasFittingRatios}
 use Rattle.worst_refine.specs.Lowered.{IsLowered}
 use Rattle.worst_refine.specs.Steps.{FloorsTell, IsReplaced, IsStep}
@@ -22,6 +23,7 @@ floors_tell-requires c =
     let at = read_wire routing c.uses.result.now c.args.n c.args.place d c.uses.ensures.value c.requires.place_there in
     let even = subst (λ r. IsEvenRatio r) has (even_at (length c.args.counts.now) routing c.args.n c.args.place c.requires.fitting c.requires.there c.requires.place_there) in
     let inside : use_there.wire < length c.args.counts.now = omega (arith, at, below_at (length c.args.counts.now) routing c.args.n c.args.place c.requires.fitting c.requires.there c.requires.place_there) in
+    let wanted : IsWanted c.args.doubtful.now use_there.wire = c.if-not-doubtful-wire.false in
     let some = even.1 in
     let half = even.2 in
     omega (arith, some, half)
@@ -35,9 +37,10 @@ returns-then-floors_tell-clause-step c =
     let at = read_wire routing c.uses.result.now c.args.n c.args.place d c.uses.ensures.value c.requires.place_there in
     let even = subst (λ r. IsEvenRatio r) has (even_at (length c.args.counts.now) routing c.args.n c.args.place c.requires.fitting c.requires.there c.requires.place_there) in
     let inside : use_there.wire < length c.args.counts.now = omega (arith, at, below_at (length c.args.counts.now) routing c.args.n c.args.place c.requires.fitting c.requires.there c.requires.place_there) in
+    let wanted : IsWanted c.args.doubtful.now use_there.wire = c.if-not-doubtful-wire.false in
     let same = get_or_default c.args.counts.now use_there.wire c.index-counts-wire.result map.empty inside in
     let told = subst (λ m. FloorsTell (floor_sum (items m)) use_there.ratio) same (c.floors_tell.ensures c.if-floors_tell.true) in
-    step_told (length c.args.counts.now) routing c.args.counts.now c.args.n c.args.place c.requires.there c.requires.place_there c.requires.fitting c.requires.counted use_there.wire use_there.ratio at has inside told
+    step_told (length c.args.counts.now) c.args.doubtful.now routing c.args.counts.now c.args.n c.args.place c.requires.there c.requires.place_there c.requires.fitting c.requires.counted use_there.wire use_there.ratio at has inside wanted told
 
 pub replace_by_least-requires-clause-there : goal.replace_by_least-requires-clause-there
 replace_by_least-requires-clause-there c =
@@ -48,8 +51,9 @@ replace_by_least-requires-clause-there c =
     let at = read_wire routing c.uses.result.now c.args.n c.args.place d c.uses.ensures.value c.requires.place_there in
     let even = subst (λ r. IsEvenRatio r) has (even_at (length c.args.counts.now) routing c.args.n c.args.place c.requires.fitting c.requires.there c.requires.place_there) in
     let inside : use_there.wire < length c.args.counts.now = omega (arith, at, below_at (length c.args.counts.now) routing c.args.n c.args.place c.requires.fitting c.requires.there c.requires.place_there) in
+    let wanted : IsWanted c.args.doubtful.now use_there.wire = c.if-not-doubtful-wire.false in
     let same = get_or_default c.args.counts.now use_there.wire c.index-counts-wire-2.result map.empty inside in
-    subst (λ m. 0 < count_by (λ r. r == use_there.ratio) (items m)) (sym same) (is_among (length c.args.counts.now) routing c.args.counts.now c.args.n c.args.place c.requires.there c.requires.place_there c.requires.fitting c.requires.counted use_there.wire use_there.ratio at has inside)
+    subst (λ m. 0 < count_by (λ r. r == use_there.ratio) (items m)) (sym same) (is_among (length c.args.counts.now) c.args.doubtful.now routing c.args.counts.now c.args.n c.args.place c.requires.there c.requires.place_there c.requires.fitting c.requires.counted use_there.wire use_there.ratio at has inside wanted)
 
 pub replace_by_least-requires-clause-even : goal.replace_by_least-requires-clause-even
 replace_by_least-requires-clause-even c =
@@ -60,6 +64,7 @@ replace_by_least-requires-clause-even c =
     let at = read_wire routing c.uses.result.now c.args.n c.args.place d c.uses.ensures.value c.requires.place_there in
     let even = subst (λ r. IsEvenRatio r) has (even_at (length c.args.counts.now) routing c.args.n c.args.place c.requires.fitting c.requires.there c.requires.place_there) in
     let inside : use_there.wire < length c.args.counts.now = omega (arith, at, below_at (length c.args.counts.now) routing c.args.n c.args.place c.requires.fitting c.requires.there c.requires.place_there) in
+    let wanted : IsWanted c.args.doubtful.now use_there.wire = c.if-not-doubtful-wire.false in
     even
 
 pub returns-clause-fitting : goal.returns-clause-fitting
@@ -71,9 +76,10 @@ returns-clause-fitting c =
     let at = read_wire routing c.uses.result.now c.args.n c.args.place d c.uses.ensures.value c.requires.place_there in
     let even = subst (λ r. IsEvenRatio r) has (even_at (length c.args.counts.now) routing c.args.n c.args.place c.requires.fitting c.requires.there c.requires.place_there) in
     let inside : use_there.wire < length c.args.counts.now = omega (arith, at, below_at (length c.args.counts.now) routing c.args.n c.args.place c.requires.fitting c.requires.there c.requires.place_there) in
+    let wanted : IsWanted c.args.doubtful.now use_there.wire = c.if-not-doubtful-wire.false in
     let was = get_or_default c.args.counts.now use_there.wire c.index-counts-wire-2.result map.empty inside in
     let replaced = subst (λ m. IsReplaced m c.replace_by_least.new.counts use_there.ratio c.in_ok-ratio.ratio) was c.in_ok-ratio.ensures in
-    subst (λ (s : Routing). HasFittingRatios (length c.args.counts.now) s) (sym c.set_ratio.ensures.changed) (step_replaced (length c.args.counts.now) routing c.args.counts.now c.args.n c.args.place c.requires.there c.requires.place_there c.requires.fitting c.requires.counted use_there.wire use_there.ratio at has inside c.in_ok-ratio.ratio c.replace_by_least.new.counts even replaced).fitting
+    subst (λ (s : Routing). HasFittingRatios (length c.args.counts.now) s) (sym c.set_ratio.ensures.changed) (step_replaced (length c.args.counts.now) c.args.doubtful.now routing c.args.counts.now c.args.n c.args.place c.requires.there c.requires.place_there c.requires.fitting c.requires.counted use_there.wire use_there.ratio at has inside wanted c.in_ok-ratio.ratio c.replace_by_least.new.counts even replaced).fitting
 
 pub returns-clause-lowered : goal.returns-clause-lowered
 returns-clause-lowered c =
@@ -84,9 +90,10 @@ returns-clause-lowered c =
     let at = read_wire routing c.uses.result.now c.args.n c.args.place d c.uses.ensures.value c.requires.place_there in
     let even = subst (λ r. IsEvenRatio r) has (even_at (length c.args.counts.now) routing c.args.n c.args.place c.requires.fitting c.requires.there c.requires.place_there) in
     let inside : use_there.wire < length c.args.counts.now = omega (arith, at, below_at (length c.args.counts.now) routing c.args.n c.args.place c.requires.fitting c.requires.there c.requires.place_there) in
+    let wanted : IsWanted c.args.doubtful.now use_there.wire = c.if-not-doubtful-wire.false in
     let was = get_or_default c.args.counts.now use_there.wire c.index-counts-wire-2.result map.empty inside in
     let replaced = subst (λ m. IsReplaced m c.replace_by_least.new.counts use_there.ratio c.in_ok-ratio.ratio) was c.in_ok-ratio.ensures in
-    subst (λ (s : Routing). IsLowered routing s) (sym c.set_ratio.ensures.changed) (step_replaced (length c.args.counts.now) routing c.args.counts.now c.args.n c.args.place c.requires.there c.requires.place_there c.requires.fitting c.requires.counted use_there.wire use_there.ratio at has inside c.in_ok-ratio.ratio c.replace_by_least.new.counts even replaced).lowered
+    subst (λ (s : Routing). IsLowered routing s) (sym c.set_ratio.ensures.changed) (step_replaced (length c.args.counts.now) c.args.doubtful.now routing c.args.counts.now c.args.n c.args.place c.requires.there c.requires.place_there c.requires.fitting c.requires.counted use_there.wire use_there.ratio at has inside wanted c.in_ok-ratio.ratio c.replace_by_least.new.counts even replaced).lowered
 
 pub returns-clause-step : goal.returns-clause-step
 returns-clause-step c =
@@ -97,6 +104,7 @@ returns-clause-step c =
     let at = read_wire routing c.uses.result.now c.args.n c.args.place d c.uses.ensures.value c.requires.place_there in
     let even = subst (λ r. IsEvenRatio r) has (even_at (length c.args.counts.now) routing c.args.n c.args.place c.requires.fitting c.requires.there c.requires.place_there) in
     let inside : use_there.wire < length c.args.counts.now = omega (arith, at, below_at (length c.args.counts.now) routing c.args.n c.args.place c.requires.fitting c.requires.there c.requires.place_there) in
+    let wanted : IsWanted c.args.doubtful.now use_there.wire = c.if-not-doubtful-wire.false in
     let was = get_or_default c.args.counts.now use_there.wire c.index-counts-wire-2.result map.empty inside in
     let replaced = subst (λ m. IsReplaced m c.replace_by_least.new.counts use_there.ratio c.in_ok-ratio.ratio) was c.in_ok-ratio.ensures in
-    subst (λ (s : Routing). IsStep (length c.args.counts.now) routing s (slice_set c.args.counts.now use_there.wire c.replace_by_least.new.counts) c.args.n c.args.place (c.args.place + 1)) (sym c.set_ratio.ensures.changed) (step_replaced (length c.args.counts.now) routing c.args.counts.now c.args.n c.args.place c.requires.there c.requires.place_there c.requires.fitting c.requires.counted use_there.wire use_there.ratio at has inside c.in_ok-ratio.ratio c.replace_by_least.new.counts even replaced)
+    subst (λ (s : Routing). IsStep (length c.args.counts.now) c.args.doubtful.now routing s (slice_set c.args.counts.now use_there.wire c.replace_by_least.new.counts) c.args.n c.args.place (c.args.place + 1)) (sym c.set_ratio.ensures.changed) (step_replaced (length c.args.counts.now) c.args.doubtful.now routing c.args.counts.now c.args.n c.args.place c.requires.there c.requires.place_there c.requires.fitting c.requires.counted use_there.wire use_there.ratio at has inside wanted c.in_ok-ratio.ratio c.replace_by_least.new.counts even replaced)
