@@ -92,7 +92,15 @@ pub(crate) fn keep_traded(
     if !is_for_trade(done) {
         return Ok(());
     }
-    let found = trade_from(alloc, problem, incidence, trees, numbers, best.value, done == 0)?;
+    let found = trade_from(
+        alloc,
+        problem,
+        incidence,
+        trees,
+        numbers,
+        best.value,
+        done == 0,
+    )?;
     if let Some(solution) = found {
         best.value = value(alloc, problem, &solution)?;
         best.solution = solution;

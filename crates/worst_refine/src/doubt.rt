@@ -1,7 +1,6 @@
 //! Which wires are in doubt: where the reciprocals rounded up do not tell that no ratio can be lowered.
-ghost use Rattle.std.specs.Prelude.{◌≡◌, ℕ, ◌<◌, ◌≤◌, length, slice_index, All, IsTrue, IfOk};
+ghost use Rattle.std.specs.Prelude.{◌≡◌, ℕ, ◌<◌, length, slice_index, All, IsTrue, IfOk};
 ghost use Rattle.tdm_problem.specs.declared.solution.WireUse.{WireUse};
-ghost use Rattle.tdm_problem.specs.Limits.{most_wires};
 ghost use Rattle.solution_eval.specs.Counted.{IsWanted};
 ghost use Rattle.worst_refine.specs.Fitting.{HasFittingRatios};
 ghost use Rattle.worst_refine.specs.Spent.{IsSpent};
