@@ -18,12 +18,15 @@ use bound_cert::UNIFORM_WEIGHT;
 use even_legalise::shared_sums;
 use group_multipliers::next_weights;
 use net_groups::Incidence;
-use ripup_reroute::reroute;
+use ripup_reroute::{Effort, reroute_with};
 use std::alloc::{AllocError, Global};
 use tdm_problem::{Problem, Trees};
 
 /// How many passes over all nets a round makes.
 const PASSES: u32 = 4;
+
+/// So many rounds look for shorter trees of all nets in their first pass, and from several FPGAs of the heavy ones.
+const FULL_ROUNDS: u32 = 5;
 
 /// What a round begins with: the weights of the groups, the trees, and the best so far.
 #[derive(Drop)]
@@ -142,7 +145,7 @@ fn round(
         → IsEnded problem.now running.old.weights.items running.old.trees) }
 {
     let numbers = numbers_of(alloc, incidence, &running.weights)?;
-    let _rerouted = reroute(
+    let _rerouted = reroute_with(
         alloc,
         problem,
         graph,
@@ -150,6 +153,7 @@ fn round(
         &numbers,
         nets,
         PASSES,
+        effort_of(done),
     )?;
     if !are_few(&running.trees) {
         return Ok(false);
@@ -186,4 +190,18 @@ fn round(
     }
     running.weights = next_weights(alloc, &running.weights, &sums)?;
     Ok(true)
+}
+
+/// How much a round looks for, where so many were done before.
+fn effort_of(done: u32) -> Effort {
+    if done < FULL_ROUNDS {
+        return Effort {
+            full_passes: 1,
+            several_starts: true,
+        };
+    }
+    Effort {
+        full_passes: 0,
+        several_starts: false,
+    }
 }

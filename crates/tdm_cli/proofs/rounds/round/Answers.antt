@@ -10,15 +10,15 @@ use Rattle.tdm_cli.proofs.RunningLaws.{Reroutes-made, renewed-count}
 use Rattle.tdm_cli.proofs.SharedValues.{shared-sums_small}
 use Rattle.tdm_cli.proofs.rounds.round.Goals as goal
 
-pub reroute-requires-clause-there : goal.reroute-requires-clause-there
-reroute-requires-clause-there c =
+pub reroute_with-requires-clause-there : goal.reroute_with-requires-clause-there
+reroute_with-requires-clause-there c =
     subst (λ (ns : List ℕ). All (λ n. n < length c.args.problem.now.nets) ns) (sym c.requires.nets) (range-below (length c.args.problem.now.nets))
 
 pub returns-then-not-are_few-clause-ended : goal.returns-then-not-are_few-clause-ended
 returns-then-not-are_few-clause-ended c _ _ = record {
-  round = record { weights = c.args.running.now.weights.items; numbers = c.in_ok-numbers.numbers.items; trees = c.reroute.new.trees };
+  round = record { weights = c.args.running.now.weights.items; numbers = c.in_ok-numbers.numbers.items; trees = c.reroute_with.new.trees };
   weights_are = refl;
-  reroutes = Reroutes-made c.args.problem.now c.args.running.now.weights.items c.deref.result.now c.in_ok-numbers.numbers.items c.deref-2.result.now c.args.nets.now c.args.running.now.trees c.reroute.new.trees
+  reroutes = Reroutes-made c.args.problem.now c.args.running.now.weights.items c.deref.result.now c.in_ok-numbers.numbers.items c.deref-2.result.now c.args.nets.now c.args.running.now.trees c.reroute_with.new.trees
       c.deref.ensures.value c.deref-2.ensures.value c.requires.nets (c.in_ok-numbers.ensures.roots c.args.problem.now c.requires.incidence) c.in_ok-_rerouted.ensures.passes;
   over = c.are_few.ensures.no c.if-not-are_few.true;
 }
@@ -26,17 +26,17 @@ returns-then-not-are_few-clause-ended c _ _ = record {
 pub next_weights-requires-clause-small : goal.next_weights-requires-clause-small
 next_weights-requires-clause-small c =
     let roots = c.in_ok-numbers.ensures.roots c.args.problem.now c.requires.incidence in
-    let paired : length c.deref-3.result.now ≡ length c.reroute.new.trees =
+    let paired : length c.deref-3.result.now ≡ length c.reroute_with.new.trees =
     ap length c.deref-3.ensures.value ∙ roots.count ∙ sym c.in_ok-_rerouted.ensures.rerouted.minimal.for_board.nets in
     subst (λ (xs : List ℕ). All (λ total. total ≤ 2 ^ 87) xs) (sym (c.deref-10.ensures.value ∙ c.in_ok-sums.ensures))
-    (shared-sums_small c.args.problem.now c.reroute.new.trees c.deref-3.result.now c.requires.best.may_be_written.sayable.limits c.are_few.ensures.rising paired
+    (shared-sums_small c.args.problem.now c.reroute_with.new.trees c.deref-3.result.now c.requires.best.may_be_written.sayable.limits c.are_few.ensures.rising paired
     (c.are_few.ensures.yes c.if-not-are_few.false))
 
 pub returns-clause-weights : goal.returns-clause-weights
 returns-clause-weights c =
     let sums : length c.deref-10.result.now ≡ length c.deref-9.result.now =
     ap length (c.deref-10.ensures.value ∙ c.in_ok-sums.ensures)
-    ∙ length-map c.args.problem.now.groups (group_sum (shared_routing c.args.problem.now c.reroute.new.trees c.deref-3.result.now))
+    ∙ length-map c.args.problem.now.groups (group_sum (shared_routing c.args.problem.now c.reroute_with.new.trees c.deref-3.result.now))
     ∙ sym (ap length c.deref-9.ensures.value ∙ c.requires.weights.count) in
     record {
       count = ap length c.in_ok-running.ensures.value ∙ renewed-count c.deref-9.result.now c.deref-10.result.now sums ∙ ap length c.deref-9.ensures.value ∙ c.requires.weights.count;
@@ -49,7 +49,7 @@ returns-clause-went c _ =
     let board = c.args.problem.now in
     let weights : List ℕ = c.args.running.now.weights.items in
     let numbers : List ℕ = c.in_ok-numbers.numbers.items in
-    let trees : List (List ℕ) = c.reroute.new.trees in
+    let trees : List (List ℕ) = c.reroute_with.new.trees in
     let sums_of : List ℕ → List ℕ = λ ns. map (group_sum (shared_routing board trees ns)) board.groups in
     record {
       numbers = numbers;
