@@ -21,7 +21,7 @@ use tdm_problem::{Problem, Trees};
 pub struct Rerouted {
     /// Whether a whole pass replaced no tree.
     pub settled: bool,
-    /// The sum of the squares of the loads.
+    /// The sum of the squares of the loads of the trees afterwards.
     pub phi: u128,
 }
 
@@ -33,10 +33,12 @@ const THOROUGH: Effort = Effort {
 
 /// So many passes of turns over the picked nets, in their order, with a number at most 2^30 for each net. The load of
 /// a wire is the sum of the numbers of the nets whose tree has it, and the cost is the sum of the squares of the
-/// loads. In its turn a net is taken off its wires and gets another minimal tree where that makes the cost smaller.
-/// A pass that replaces no tree is the last: then it is settled. Picks may repeat, and there may be none. The only
-/// error is want of memory: then the trees are minimal, those of nets that were not picked are as they were, and the
-/// cost has not risen. Method: rip-up and reroute by marginal cost; a tree joins the nearest terminal, again and again
+/// loads. The graph is the problem's, each net has a minimal tree, and each pick is a net. In its turn a net is taken
+/// off its wires, and keeps its tree or gets another minimal tree that makes the cost smaller; after it the tree is no
+/// longer, at the marginal lengths, than the least walks from the net's first FPGA to its others together. A pass that
+/// replaces no tree is the last: then it is settled. Picks may repeat, and there may be none. The only error is want of
+/// memory: then the trees are minimal, those of nets that were not picked are as they were, and the cost has not
+/// risen. Method: rip-up and reroute by marginal cost; a tree joins the nearest terminal, again and again
 /// (Takahashi and Matsuyama, 1980).
 pub fn reroute(
     alloc: Global,

@@ -15,8 +15,8 @@ use std::alloc::AllocError;
 use steiner_build::TreeBuilder;
 
 /// Whether walks from the first terminal to the others are known to be together at least as long as `cap`, by their
-/// lower bounds, and where these come near by distances too. Where no shorter tree than such walks is asked for, or can
-/// be, it is worth to ask: for a lazy turn, and for two terminals.
+/// lower bounds, and in a lazy turn, where these come near, by distances too. A tree that is no longer than such walks
+/// may stay.
 pub(crate) fn walks_reach(
     graph: &BoardGraph,
     lengths: &Marginals,
