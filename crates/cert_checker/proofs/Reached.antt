@@ -29,8 +29,9 @@ module _ (board : Board) (arcs : Arcs) (cap x : ℕ) (s : Labels) (search : IsUn
       on later (inr far) = omega (arith, far, within, walk.2.2)
 
       go : ((near : ℕ) → IsAtLabel s walk.0 near → reach ≤ height_in s reach f + (near + walk.2.0)) → IsWaitingOrSettled board arcs (λ _. 0) cap s a d → reach ≤ height_in s reach f + (d + total)
-      go later (inl waits) = omega (arith, waiting a d waits)
-      go later (inr settled) = on later (settled.1 e walk.0 walk.1)
+      go later (inl waits) = omega (arith, waiting a waits.0 waits.1, waits.2)
+      go later (inr (inl needless)) = omega (arith, needless, within)
+      go later (inr (inr settled)) = on later (settled.1 e walk.0 walk.1)
 
   height-enough : (reach : ℕ) → reach ≤ cap → ((f d : ℕ) → IsWaiting s f d → reach ≤ d) → (es : List ℕ) (f total : ℕ) → IsArcWalk board arcs x es f total → reach ≤ height_in s reach f + total
   height-enough reach within waiting es f total walk = omega (arith, height-on reach within waiting x 0 (None, root) es f total walk)

@@ -55,8 +55,9 @@ module _ (graph : Graph) (l : ℕ → ℕ) (cap : ℕ) (s : Labels) (search : Is
       on near before (inr none) = absurd (omega (arith, before, none, great, few_wires, short e f back.2.0 back.2.1))
 
       go : (near : ℕ) → IsAtLabel s back.2.0 near → near ≤ length es * 2 ^ 51 → IsWaitingOrSettled (board_of graph) (both_ways l) (λ _. 0) cap s back.2.0 near → d ≤ length (e ∷ es) * 2 ^ 51
-      go near at' before (inl waits) = absurd (omega (arith, before, far back.2.0 near waits, great, few_wires))
-      go near at' before (inr settled) = on near before (settled.1 e f (Links-sym (board_of graph) e f back.2.0 back.2.1))
+      go near at' before (inl waits) = absurd (omega (arith, before, far back.2.0 waits.0 waits.1, waits.2, great, few_wires))
+      go near at' before (inr (inl needless)) = absurd (omega (arith, before, needless, great, few_wires))
+      go near at' before (inr (inr settled)) = on near before (settled.1 e f (Links-sym (board_of graph) e f back.2.0 back.2.1))
 
   settled_onward : (f d e v : ℕ) → IsAtLabel s f d → Links (board_of graph) e f v → (near : ℕ) × IsAtLabel s v near × (near ≤ d + l e)
   settled_onward f d e v at links = go (search.settled f d at)
@@ -72,8 +73,9 @@ module _ (graph : Graph) (l : ℕ → ℕ) (cap : ℕ) (s : Labels) (search : Is
       on (inr none) = absurd (omega (arith, none, small, great, short e f v links))
 
       go : IsWaitingOrSettled (board_of graph) (both_ways l) (λ _. 0) cap s f d → (near : ℕ) × IsAtLabel s v near × (near ≤ d + l e)
-      go (inl waits) = absurd (omega (arith, far f d waits, small, great))
-      go (inr settled) = on (settled.1 e v links)
+      go (inl waits) = absurd (omega (arith, far f waits.0 waits.1, waits.2, small, great))
+      go (inr (inl needless)) = absurd (omega (arith, needless, small, great))
+      go (inr (inr settled)) = on (settled.1 e v links)
 
 -- one source is added to a search that has just begun
 pub one_source : (n root : ℕ) (none one : Labels) → none.labels ≡ replicate n None → one.labels ≡ set none.labels root (Some (record { distance = 0; wire = None })) → root < n → IsSource one root × ((f : ℕ) → IsSource one f → f ≡ root)

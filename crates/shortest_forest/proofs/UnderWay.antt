@@ -44,7 +44,7 @@ contains_one y x (suc k, below, is) = absurd (omega (arith, below))
 
 -- ---- a label falls
 
-module _ (v d : ℕ) (wire : Option ℕ) (old new : Labels) (h : IsLowered v d wire old new) (below : v < length old.labels) (less : (near : ℕ) → IsAtLabel old v near → d ≤ near) where
+module _ (v d : ℕ) (wire : Option ℕ) (key : ℕ) (old new : Labels) (h : IsLowered v d wire key old new) (below : v < length old.labels) (less : (near : ℕ) → IsAtLabel old v near → d ≤ near) where
   pub lowered_there : HasLabel new v d wire
   lowered_there = ap (λ xs. get_or xs v None) h.labels ∙ get_or-set_same old.labels v (Some (record { distance = d; wire = wire })) None below
 
@@ -65,34 +65,37 @@ module _ (v d : ℕ) (wire : Option ℕ) (old new : Labels) (h : IsLowered v d w
       inl (nearer.0, nearer.1, omega (arith, near.2, nearer.2))
   lowered_no_shorter bound cap x distance (inr far) = inr far
 
-  pub lowered_waits : IsWaiting new v d
+  pub lowered_waits : IsWaiting new v key
   lowered_waits =
-      let entry : Reverse (ℕ × ℕ) = record { 0 = (d, v) } in
+      let entry : Reverse (ℕ × ℕ) = record { 0 = (key, v) } in
       Contains-permutation (entry ∷ old.queue) new.queue entry h.queue (0, omega arith, refl)
 
   pub lowered_still_waits : (x distance : ℕ) → IsWaiting old x distance → IsWaiting new x distance
   lowered_still_waits x distance waits =
-      let entry : Reverse (ℕ × ℕ) = record { 0 = (d, v) } in
+      let entry : Reverse (ℕ × ℕ) = record { 0 = (key, v) } in
       let this : Reverse (ℕ × ℕ) = record { 0 = (distance, x) } in
       Contains-permutation (entry ∷ old.queue) new.queue this h.queue (Contains-append_right (entry ∷ []) old.queue this waits)
 
-  pub lowered_waited : (x distance : ℕ) → IsWaiting new x distance → (v ≡ x) ⊎ IsWaiting old x distance
+  pub lowered_waited : (x distance : ℕ) → IsWaiting new x distance → ((v ≡ x) × (key ≡ distance)) ⊎ IsWaiting old x distance
   lowered_waited x distance waits = go (Contains-append_cases (entry ∷ []) old.queue this (Contains-permutation new.queue (entry ∷ old.queue) this (IsPermutation-sym (entry ∷ old.queue) new.queue h.queue) waits))
     where
       entry : Reverse (ℕ × ℕ)
-      entry = record { 0 = (d, v) }
+      entry = record { 0 = (key, v) }
 
       this : Reverse (ℕ × ℕ)
       this = record { 0 = (distance, x) }
 
-      go : Contains (entry ∷ []) this ⊎ IsWaiting old x distance → (v ≡ x) ⊎ IsWaiting old x distance
-      go (inl one) = inl (ap (λ (r : Reverse (ℕ × ℕ)). r.0.1) (contains_one entry this one))
+      go : Contains (entry ∷ []) this ⊎ IsWaiting old x distance → ((v ≡ x) × (key ≡ distance)) ⊎ IsWaiting old x distance
+      go (inl one) =
+          let same = contains_one entry this one in
+          inl (ap (λ (r : Reverse (ℕ × ℕ)). r.0.1) same, ap (λ (r : Reverse (ℕ × ℕ)). r.0.0) same)
       go (inr before) = inr before
 
   pub lowered_waits_or_settled : (board : Board) (arcs : Arcs) (bound : ℕ → ℕ) (cap x distance : ℕ) → IsWaitingOrSettled board arcs bound cap old x distance → IsWaitingOrSettled board arcs bound cap new x distance
-  lowered_waits_or_settled board arcs bound cap x distance (inl waits) = inl (lowered_still_waits x distance waits)
-  lowered_waits_or_settled board arcs bound cap x distance (inr settled) =
-      inr (λ goal. settled.0 (subst (λ (gs : List Bool). IsGoal gs x) h.goals goal), λ e u links. lowered_no_shorter bound cap u (distance + arcs e x u) (settled.1 e u links))
+  lowered_waits_or_settled board arcs bound cap x distance (inl waits) = inl (waits.0, lowered_still_waits x waits.0 waits.1, waits.2)
+  lowered_waits_or_settled board arcs bound cap x distance (inr (inl far)) = inr (inl far)
+  lowered_waits_or_settled board arcs bound cap x distance (inr (inr settled)) =
+      inr (inr (λ goal. settled.0 (subst (λ (gs : List Bool). IsGoal gs x) h.goals goal), λ e u links. lowered_no_shorter bound cap u (distance + arcs e x u) (settled.1 e u links)))
 
   at_or_other : (board : Board) (ways : List ℕ) (from : ℕ) → IsWayBack board new v ways from → (x : ℕ) → (x ≢ v → (fs : List ℕ) × ((end : ℕ) × IsWayBack board new x fs end)) → (fs : List ℕ) × ((end : ℕ) × IsWayBack board new x fs end)
   at_or_other board ways from way x elsewhere = go (cases_eq x v)
@@ -110,19 +113,27 @@ module _ (v d : ℕ) (wire : Option ℕ) (old new : Labels) (h : IsLowered v d w
       at_or_other board ways from way x (λ other. (e ∷ rest.0, (rest.1.0, (back.0, lowered_other x other ∙ back.1, (back.2.0, back.2.1, rest.1.1)))))
 
   -- what holds of labels still does, if there is a way back from v, along which labels get no longer
-  pub lowered_labelled : (board : Board) (arcs : Arcs) → IsLabelled board arcs old → (ways : List ℕ) (from : ℕ) → IsWayBack board new v ways from → (wire ≡ None → d ≡ 0) → ((e u : ℕ) → wire ≡ Some e → Links board e v u → (near : ℕ) × IsAtLabel new u near × (near + arcs e u v ≤ d)) → IsLabelled board arcs new
-  lowered_labelled board arcs was ways from way none some = record {
+  pub lowered_labelled : (board : Board) (arcs : Arcs) → d ≤ key → IsLabelled board arcs old → (ways : List ℕ) (from : ℕ) → IsWayBack board new v ways from → (wire ≡ None → d ≡ 0) → ((e u : ℕ) → wire ≡ Some e → Links board e v u → (near : ℕ) × IsAtLabel new u near × (near + arcs e u v ≤ d)) → IsLabelled board arcs new
+  lowered_labelled board arcs above was ways from way none some = record {
     count = ap length h.labels ∙ length-set old.labels v (Some (record { distance = d; wire = wire })) ∙ was.count;
     marks = ap length h.goals ∙ was.marks;
     inside = λ f distance waits. inside' f distance (lowered_waited f distance waits);
+    keyed = λ f k waits. keyed' f k (lowered_waited f k waits);
     back = λ f distance at. back' f distance at (cases_eq f v);
     sources = λ f distance at. sources' f distance at (cases_eq f v);
     shorter = λ f distance e u at links. shorter' f distance e u at links (cases_eq f v);
   }
     where
-      inside' : (f distance : ℕ) → (v ≡ f) ⊎ IsWaiting old f distance → f < board.fpgas
-      inside' f distance (inl same) = omega (arith, same, below, was.count)
+      inside' : (f distance : ℕ) → ((v ≡ f) × (key ≡ distance)) ⊎ IsWaiting old f distance → f < board.fpgas
+      inside' f distance (inl same) = omega (arith, same.0, below, was.count)
       inside' f distance (inr waits) = was.inside f distance waits
+
+      keyed' : (f k : ℕ) → ((v ≡ f) × (key ≡ k)) ⊎ IsWaiting old f k → (n : ℕ) × IsAtLabel new f n × (n ≤ k)
+      keyed' f k (inl same) = (d, (wire, subst (λ (n : ℕ). HasLabel new n d wire) same.0 lowered_there), omega (arith, same.1, above))
+      keyed' f k (inr waits) =
+          let before = was.keyed f k waits in
+          let nearer = lowered_falls f before.0 before.1 in
+          (nearer.0, nearer.1, omega (arith, before.2, nearer.2))
 
       back' : (f distance : ℕ) → IsAtLabel new f distance → (f ≡ v) ⊎ (f ≢ v) → (es : List ℕ) × ((source : ℕ) × IsWayBack board new f es source)
       back' f distance at (inl same) = (ways, (from, subst (λ (n : ℕ). IsWayBack board new n ways from) (sym same) way))
@@ -151,9 +162,9 @@ module _ (v d : ℕ) (wire : Option ℕ) (old new : Labels) (h : IsLowered v d w
 
 -- ---- a source is added
 
-pub IsUnderWay-source : (v : ℕ) (old new : Labels) → IsLowered v 0 None old new → v < length old.labels → (board : Board) (arcs : Arcs) (bound : ℕ → ℕ) (cap : ℕ) → IsUnderWay board arcs bound cap old → IsUnderWay board arcs bound cap new
+pub IsUnderWay-source : (v : ℕ) (old new : Labels) → IsLowered v 0 None 0 old new → v < length old.labels → (board : Board) (arcs : Arcs) (bound : ℕ → ℕ) (cap : ℕ) → IsUnderWay board arcs bound cap old → IsUnderWay board arcs bound cap new
 IsUnderWay-source v old new h below board arcs bound cap was = record {
-  labelled = lowered_labelled v 0 None old new h below less board arcs was.labelled [] v (refl, there) (λ _. refl) (λ e u none links. absurd (cc none));
+  labelled = lowered_labelled v 0 None 0 old new h below less board arcs (omega arith) was.labelled [] v (refl, there) (λ _. refl) (λ e u none links. absurd (cc none));
   settled = λ f d at. settled' f d at (cases_eq f v);
 }
   where
@@ -161,16 +172,13 @@ IsUnderWay-source v old new h below board arcs bound cap was = record {
     less near at = omega arith
 
     there : HasLabel new v 0 None
-    there = lowered_there v 0 None old new h below less
+    there = lowered_there v 0 None 0 old new h below less
 
     settled' : (f d : ℕ) → IsAtLabel new f d → (f ≡ v) ⊎ (f ≢ v) → IsWaitingOrSettled board arcs bound cap new f d
     settled' f d at (inl same) =
-        let here : IsAtLabel new v d = subst (λ (n : ℕ). IsAtLabel new n d) same at in
-        let zero' : 0 ≡ d = distance_unique new v 0 d (None, there) here in
-        let waits : IsWaiting new v d = subst (λ (n : ℕ). IsWaiting new v n) zero' (lowered_waits v 0 None old new h below less) in
-        inl (subst (λ (n : ℕ). IsWaiting new n d) (sym same) waits)
+        inl (0, subst (λ (n : ℕ). IsWaiting new n 0) (sym same) (lowered_waits v 0 None 0 old new h below less), omega arith)
     settled' f d at (inr other) =
-        lowered_waits_or_settled v 0 None old new h below less board arcs bound cap f d (was.settled f d (at.0, sym (lowered_other v 0 None old new h below less f other) ∙ at.1))
+        lowered_waits_or_settled v 0 None 0 old new h below less board arcs bound cap f d (was.settled f d (at.0, sym (lowered_other v 0 None 0 old new h below less f other) ∙ at.1))
 
 -- ---- goals
 
@@ -183,6 +191,7 @@ IsUnderWay-goals old new labels queue marks goals board arcs bound cap was =
         count = was.labelled.count;
         marks = marks ∙ was.labelled.marks;
         inside = was.labelled.inside;
+        keyed = was.labelled.keyed;
         back = λ f d at. was_back f d at;
         sources = was.labelled.sources;
         shorter = was.labelled.shorter;
@@ -205,7 +214,8 @@ IsUnderWay-goals old new labels queue marks goals board arcs bound cap was =
 
     settled' : (f d : ℕ) → IsAtLabel old f d → IsWaitingOrSettled board arcs bound cap old f d → IsWaitingOrSettled board arcs bound cap (record { labels = old.labels; goals = new.goals; queue = old.queue }) f d
     settled' f d at (inl waits) = inl waits
-    settled' f d at (inr settled) = inr (λ goal. settled.0 (goals f d at goal), settled.1)
+    settled' f d at (inr (inl far)) = inr (inl far)
+    settled' f d at (inr (inr settled)) = inr (inr (λ goal. settled.0 (goals f d at goal), settled.1))
 
 -- ---- caps fall and bounds rise
 
@@ -220,9 +230,10 @@ IsUnderWay-falls board arcs bound bound' cap cap' s rises falls was = record {
 }
   where
     go : (f d : ℕ) → IsWaitingOrSettled board arcs bound cap s f d → IsWaitingOrSettled board arcs bound' cap' s f d
-    go f d (inl waits) = inl waits
-    go f d (inr settled) =
-        inr (settled.0, λ e v links. no_shorter-falls s bound bound' cap cap' v (d + arcs e f v) (rises v) falls (settled.1 e v links))
+    go f d (inl waits) = inl (waits.0, waits.1, omega (arith, waits.2, rises f))
+    go f d (inr (inl far)) = inr (inl (omega (arith, far, rises f, falls)))
+    go f d (inr (inr settled)) =
+        inr (inr (settled.0, λ e v links. no_shorter-falls s bound bound' cap cap' v (d + arcs e f v) (rises v) falls (settled.1 e v links)))
 
 -- ---- the end of a search
 
@@ -231,8 +242,9 @@ pub no_walk_shorter : (board : Board) (arcs : Arcs) (bound : ℕ → ℕ) (cap l
 no_walk_shorter board arcs bound cap limit s search within waiting lower f d [] g total at goal walk = go (search.settled f d at)
   where
     go : IsWaitingOrSettled board arcs bound cap s f d → limit ≤ d + total
-    go (inl waits) = omega (arith, waiting f d waits)
-    go (inr settled) = absurd (settled.0 (subst (λ (n : ℕ). IsGoal s.goals n) (sym walk.0) goal))
+    go (inl waits) = omega (arith, waiting f waits.0 waits.1, waits.2, lower f [] g total goal walk)
+    go (inr (inl far)) = omega (arith, far, within, lower f [] g total goal walk)
+    go (inr (inr settled)) = absurd (settled.0 (subst (λ (n : ℕ). IsGoal s.goals n) (sym walk.0) goal))
 no_walk_shorter board arcs bound cap limit s search within waiting lower f d (e ∷ es) g total at goal walk =
     go (λ near later. no_walk_shorter board arcs bound cap limit s search within waiting lower walk.0 near es g walk.2.0 later goal walk.2.1) (search.settled f d at)
   where
@@ -241,8 +253,9 @@ no_walk_shorter board arcs bound cap limit s search within waiting lower f d (e 
     on later (inr far) = omega (arith, far, within, walk.2.2, lower walk.0 es g walk.2.0 goal walk.2.1)
 
     go : ((near : ℕ) → IsAtLabel s walk.0 near → limit ≤ near + walk.2.0) → IsWaitingOrSettled board arcs bound cap s f d → limit ≤ d + total
-    go later (inl waits) = omega (arith, waiting f d waits)
-    go later (inr settled) = on later (settled.1 e walk.0 walk.1)
+    go later (inl waits) = omega (arith, waiting f waits.0 waits.1, waits.2, lower f (e ∷ es) g total goal walk)
+    go later (inr (inl far)) = omega (arith, far, within, lower f (e ∷ es) g total goal walk)
+    go later (inr (inr settled)) = on later (settled.1 e walk.0 walk.1)
 
 -- ---- the start
 
@@ -252,6 +265,7 @@ IsUnderWay-begun s n labels queue board arcs bound cap count marks = record {
     count = count;
     marks = marks;
     inside = λ f d waits. absurd (nothing_waits f d waits);
+    keyed = λ f d waits. absurd (nothing_waits f d waits);
     back = λ f d at. absurd (unlabelled' f d at);
     sources = λ f d at. absurd (unlabelled' f d (None, at));
     shorter = λ f d e u at links. absurd (unlabelled' f d (Some e, at));

@@ -13,8 +13,8 @@ use std::alloc::AllocError;
 pub const MOST_CAP: u64 = u64::MAX - (1 << 51) + 1;
 
 /// Goes on with the search until its nearest goal is settled, and answers it. None where nothing below
-/// `cap` is left: where the bounds are true, no goal is nearer than that. Labels whose distance and lower
-/// bound reach the cap are left out. [`Search::begin`] comes before the first call of a search. Within one
+/// `cap` is left: where the bounds are true, no goal is nearer than that. FPGAs are settled in the order of
+/// distance plus lower bound (Hart, Nilsson and Raphael, 1968), and those where this reaches the cap are left out. [`Search::begin`] comes before the first call of a search. Within one
 /// search, the lengths stay as they are, the cap may fall and bounds may rise. After want of memory the
 /// goals are as they were, but the labels are those of no search: [`Search::begin`] comes before anything
 /// else is asked of them.
@@ -40,13 +40,20 @@ pub fn nearest_goal<A: ArcLengths, B: LowerBounds>(
         (board_of graph.now) (A.arc_length arcs.now) (B.lower_bound bounds.now) cap search.new)) }
 {
     while let Some(next) = search.first() {
-        let distance = next.0;
+        let key = next.0;
         let f = next.1;
-        if distance >= cap {
+        if key >= cap {
             return Ok(None);
         }
-        if !search.is_at(f, distance) {
+        let distance = search.distance(f).unwrap_or(0);
+        let bound = bounds.bound_of(f);
+        if bound >= cap - distance {
             search.take();
+        } else if distance + bound < key {
+            search.take();
+        } else if key < distance + bound {
+            search.take();
+            search.queue_again(f, distance + bound)?;
         } else if search.is_goal(f) {
             return Ok(Some(f));
         } else {
@@ -107,8 +114,13 @@ fn reach<B: LowerBounds>(
             return Ok(());
         }
     }
-    if distance < cap && bounds.bound_of(fpga) < cap - distance {
-        search.lower(fpga, distance, Some(wire))?;
+    if distance >= cap {
+        return Ok(());
     }
+    let bound = bounds.bound_of(fpga);
+    if bound >= cap - distance {
+        return Ok(());
+    }
+    search.lower(fpga, distance, Some(wire), distance + bound)?;
     Ok(())
 }

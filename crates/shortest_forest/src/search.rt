@@ -1,6 +1,6 @@
 //! The labels of a search over lengths, its goals and its queue: a workspace that is made once for a graph.
 ghost use Rattle.std.specs.Prelude.{◌≡◌, ◌<◌, ◌≤◌, ℕ, true, false, ◌∷◌, [], length, Some, None, replicate, slice_get, slice_index_or, slice_set, IfOk, IfSome, IfNone, OnOk, OnErr, IsTrue, ◌↔◌, IsPermutation};
-ghost use Rattle.shortest_forest.specs.Labels.{label_at, distance_in, wire_in, IsAtLabel, IsWaiting, IsLowered, IsTaken, IsFront, KeepsMarks, StaysUnderWay, IsBegun};
+ghost use Rattle.shortest_forest.specs.Labels.{label_at, distance_in, wire_in, IsAtLabel, IsWaiting, IsLowered, IsQueued, IsTaken, IsFront, KeepsMarks, StaysUnderWay, IsBegun};
 
 use crate::label::Label;
 use crate::stamped::{Stamped, label_in, next_stamp, unknown_labels};
@@ -87,7 +87,7 @@ impl Search {
         ensures under_way { OnOk result (StaysUnderWay self.old self.new) }
         ensures err { OnErr result (self.new ≡ self.old) }
     {
-        self.lower(f, 0, None)?;
+        self.lower(f, 0, None, 0)?;
         Ok(())
     }
 
@@ -162,30 +162,20 @@ impl Search {
         }
     }
 
-    /// Whether FPGA `f` has a label of this distance.
-    pub(crate) fn is_at(&self, f: u32, distance: u64) -> bool
-        requires { f < length self.now.labels }
-        ensures { IsTrue result ↔ IsAtLabel self.now f distance }
-    {
-        match self.label(f) {
-            Some(label) => label.distance == distance,
-            None => false,
-        }
-    }
-
-    /// Gives FPGA `f` a label and puts it in the queue. After want of memory nothing has changed.
+    /// Gives FPGA `f` a label and puts it in the queue with a key. After want of memory nothing has changed.
     pub(crate) fn lower(
         &mut self,
         f: u32,
         distance: u64,
         wire: Option<u32>,
+        key: u64,
     ) -> Result<(), AllocError>
         requires { f < length self.old.labels }
-        ensures lowered { OnOk result (IsLowered f distance wire self.old self.new) }
+        ensures lowered { OnOk result (IsLowered f distance wire key self.old self.new) }
         ensures marks { KeepsMarks self.old self.new }
         ensures err { OnErr result (self.new ≡ self.old) }
     {
-        self.queue.push(Reverse((distance, f)))?;
+        self.queue.push(Reverse((key, f)))?;
         self.labels[f as usize] = Stamped {
             distance,
             wire,
@@ -194,11 +184,21 @@ impl Search {
         Ok(())
     }
 
-    /// What stands at the front of the queue: nothing waits with a smaller distance.
+    /// Puts FPGA `f` in the queue once more, with a key. After want of memory nothing has changed.
+    pub(crate) fn queue_again(&mut self, f: u32, key: u64) -> Result<(), AllocError>
+        ensures queued { OnOk result (IsQueued f key self.old self.new) }
+        ensures marks { KeepsMarks self.old self.new }
+        ensures err { OnErr result (self.new ≡ self.old) }
+    {
+        self.queue.push(Reverse((key, f)))?;
+        Ok(())
+    }
+
+    /// What stands at the front of the queue, with its key: nothing waits with a smaller one.
     pub(crate) fn first(&self) -> Option<(u64, u32)>
         ensures none { IfNone result (self.now.queue ≡ []) }
         ensures front { IfSome result (λ x. IsFront self.now x.0 x.1) }
-        ensures least { IfSome result (λ x. (f d : ℕ) → IsWaiting self.now f d → x.0 ≤ d) }
+        ensures least { IfSome result (λ x. (f key : ℕ) → IsWaiting self.now f key → x.0 ≤ key) }
     {
         match self.queue.peek() {
             Some(Reverse(x)) => Some(*x),
@@ -208,7 +208,7 @@ impl Search {
 
     /// Takes what stands at the front out of the queue.
     pub(crate) fn take(&mut self)
-        ensures { (d f : ℕ) → IsFront self.old d f → IsTaken d f self.old self.new }
+        ensures { (key f : ℕ) → IsFront self.old key f → IsTaken key f self.old self.new }
     {
         let _ = self.queue.pop();
     }

@@ -10,7 +10,7 @@ use Rattle.shortest_forest.proofs.search.Search.lower.Goals as goal
 pub returns-clause-lowered : goal.returns-clause-lowered
 returns-clause-lowered c =
     let l : Option Label = Some (record { distance = c.args.distance; wire = c.args.wire }) in
-    let entry : Reverse (ℕ × ℕ) = record { 0 = (c.args.distance, c.args.f) } in
+    let entry : Reverse (ℕ × ℕ) = record { 0 = (c.args.key, c.args.f) } in
     let P : List (Reverse (ℕ × ℕ)) → Type 0 = λ q. IsPermutation (entry ∷ q) (heap_items c.push.new.self) in
     record {
       labels = labels_set c.self.inside.stamp c.self.inside.labels.items c.args.f c.args.distance c.args.wire ∙ ap (λ (s : Labels). set s.labels c.args.f l) c.self.view_is;
