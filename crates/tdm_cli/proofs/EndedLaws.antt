@@ -4,7 +4,7 @@ use Rattle.std.specs.Prelude.{Option, Some, None, option_map}
 use Rattle.tdm_desk.specs.declared.slots.InSlot.{InSlot}
 use Rattle.tdm_desk.specs.Files.{Files, Name}
 use Rattle.tdm_desk.specs.Seen.{Seen, files_of, said_of}
-use Rattle.tdm_desk.specs.Counts.{Counts, ReadingFailed, WritingFailed, read_counted}
+use Rattle.tdm_desk.specs.Counts.{Counts, ReadingFailed, WritingFailed, read_counted, read_faults, write_faults, with_read_faults}
 use Rattle.command_run.specs.Slots.{place, KeepsInputsBut, KeepsOutputs, KeepsOutputsBehind, AreClosed}
 use Rattle.command_run.specs.Outcome.{Outcome, HasFailed, with_unread}
 use Rattle.command_run.specs.Inputs.{Content, HoldEach, contents_in, unread}
@@ -23,6 +23,12 @@ use Rattle.tdm_cli.specs.Ended.{TouchesOnly, WritesNothing, ReportsReadFault}
 use Rattle.tdm_cli.proofs.FairLaws.{IsOwn, IsNothing, IsUnread, IsDecided, IsFair, fair}
 use Rattle.tdm_cli.proofs.AskedLaws.{status-for, status-one}
 
+-- a fault of reading leaves the count of writing
+kept-writing : (u : Option InSlot) (counts : Counts) → write_faults (with_unread u counts) ≡ write_faults counts
+unfolding write_faults read_counted with_read_faults
+kept-writing None counts = refl
+kept-writing (Some slot) counts = refl
+
 module _ {D : Type 0} (counts : D → Counts) (steady : D → Type 0) (seen : D → Seen) (request : Request) (before after : D) (answer : Status) where
   abbrev Ends : Type 0
   Ends = RunEnds counts steady seen faults (inputs_of request) (outputs_of request) (CallsFor request) before after answer
@@ -38,8 +44,8 @@ module _ {D : Type 0} (counts : D → Counts) (steady : D → Type 0) (seen : D 
       → ((outcome : Outcome Status) → Came outcome → Put outcome → KeepsOutputsBehind (length outcome.texts) (seen before) (seen after) → IsDecided request outcome → P)
       → ((slot : InSlot) → place slot ≤ length (inputs_of request) → Came (unread faults slot) → Put (unread faults slot) → KeepsOutputsBehind 0 (seen before) (seen after) → P)
       → (answer ≡ status.WriteFault → WritingFailed counts steady before after → P)
-      → (answer ≡ status.OutOfMemory → P) → P
-  ended (inr wanted) P whole failed unwritten wanting = wanting wanted.wanting
+      → ((u : Option InSlot) → answer ≡ status.OutOfMemory → counts after ≡ with_unread u (counts before) → P) → P
+  ended (inr wanted) P whole failed unwritten wanting = wanting None wanted.wanting wanted.own
   ended (inl ends) P whole failed unwritten wanting = by ends.ends
     where
       put-out : (outcome : Outcome Status) → Came outcome → Put outcome → KeepsOutputsBehind (length outcome.texts) (seen before) (seen after) → IsFair request outcome → P
@@ -54,7 +60,7 @@ module _ {D : Type 0} (counts : D → Counts) (steady : D → Type 0) (seen : D 
         where
           stop : IsStop counts steady faults ends.outcome.unread before after answer → P
           stop (inl fault) = unwritten fault.0 fault.1
-          stop (inr wanted) = wanting wanted.0
+          stop (inr wanted) = wanting ends.outcome.unread wanted.0 wanted.1
 
   -- the status is the command's own
   decided-own : (outcome : Outcome Status) → Put outcome → IsDecided request outcome → IsOwn answer
@@ -77,7 +83,7 @@ module _ {D : Type 0} (counts : D → Counts) (steady : D → Type 0) (seen : D 
       (λ outcome came put kept decided. inr (told-status files told outcome came put decided))
       (λ slot near came put kept. inl (subst IsOutsideFault (sym put.stands) tt))
       (λ is failed. inl (subst IsOutsideFault (sym is) tt))
-      (λ is. inl (subst IsOutsideFault (sym is) tt))
+      (λ u is own. inl (subst IsOutsideFault (sym is) tt))
 
   pub run-exact : Ends → (files : Files) → files_of (seen before) ≡ Some files → (called : Status) → StatusFor request files called → (answer ≡ called) ⊎ IsOutsideFault answer
   run-exact ends files told called calls = by (run-cause ends files told)
@@ -92,21 +98,21 @@ module _ {D : Type 0} (counts : D → Counts) (steady : D → Type 0) (seen : D 
       (λ outcome came put kept decided. inl (status-one request files answer called (told-status files told outcome came put decided) calls))
       (λ slot near came put kept. absurd (no_read slot came.failed))
       (λ is failed. absurd (no_write failed))
-      (λ is. inr is)
+      (λ u is own. inr is)
 
   pub run-read_fault : Ends → answer ≡ status.ReadFault → ReportsReadFault counts steady seen request before after
   run-read_fault ends fault = ended ends (ReportsReadFault counts steady seen request before after)
       (λ outcome came put kept decided. absurd (subst IsOwn fault (decided-own outcome put decided)))
       (λ slot near came put kept. record { slot = slot; asked = near; failed = came.failed; own = put.own; said = put.left.said })
       (λ is failed. absurd (let e : status.ReadFault ≡ status.WriteFault = sym fault ∙ is in cc))
-      (λ is. absurd (let e : status.ReadFault ≡ status.OutOfMemory = sym fault ∙ is in cc))
+      (λ u is own. absurd (let e : status.ReadFault ≡ status.OutOfMemory = sym fault ∙ is in cc))
 
   pub run-write_fault : Ends → answer ≡ status.WriteFault → WritingFailed counts steady before after
   run-write_fault ends fault = ended ends (WritingFailed counts steady before after)
       (λ outcome came put kept decided. absurd (subst IsOwn fault (decided-own outcome put decided)))
       (λ slot near came put kept. absurd (let e : status.WriteFault ≡ status.ReadFault = sym fault ∙ put.stands in cc))
       (λ is failed. failed)
-      (λ is. absurd (let e : status.WriteFault ≡ status.OutOfMemory = sym fault ∙ is in cc))
+      (λ u is own. absurd (let e : status.WriteFault ≡ status.OutOfMemory = sym fault ∙ is in cc))
 
   -- no count rose at a status of the command's own
   pub run-uncounted : Ends → (IsOutsideFault answer → ⊥) → counts after ≡ counts before
@@ -114,18 +120,36 @@ module _ {D : Type 0} (counts : D → Counts) (steady : D → Type 0) (seen : D 
       (λ outcome came put kept decided. put.own ∙ ap (λ u. with_unread u (counts before)) decided.readable)
       (λ slot near came put kept. absurd (no_fault (subst IsOutsideFault (sym put.stands) tt)))
       (λ is failed. absurd (no_fault (subst IsOutsideFault (sym is) tt)))
-      (λ is. absurd (no_fault (subst IsOutsideFault (sym is) tt)))
+      (λ u is own. absurd (no_fault (subst IsOutsideFault (sym is) tt)))
 
   pub run-usage : Ends → answer ≡ status.Usage → IsNothing request
   run-usage ends usage = ended ends (IsNothing request)
       (λ outcome came put kept decided. decided.usage (sym put.stands ∙ usage))
       (λ slot near came put kept. absurd (let e : status.Usage ≡ status.ReadFault = sym usage ∙ put.stands in cc))
       (λ is failed. absurd (let e : status.Usage ≡ status.WriteFault = sym usage ∙ is in cc))
-      (λ is. absurd (let e : status.Usage ≡ status.OutOfMemory = sym usage ∙ is in cc))
+      (λ u is own. absurd (let e : status.Usage ≡ status.OutOfMemory = sym usage ∙ is in cc))
 
   pub run-closed : Ends → answer ≡ status.Ok → AreClosed (length (outputs_of request)) (seen after)
   run-closed ends ok = ended ends (AreClosed (length (outputs_of request)) (seen after))
       (λ outcome came put kept decided. subst (λ n. AreClosed n (seen after)) (decided.written (sym put.stands ∙ ok)) put.closed)
       (λ slot near came put kept. absurd (let e : status.Ok ≡ status.ReadFault = sym ok ∙ put.stands in cc))
       (λ is failed. absurd (let e : status.Ok ≡ status.WriteFault = sym ok ∙ is in cc))
-      (λ is. absurd (let e : status.Ok ≡ status.OutOfMemory = sym ok ∙ is in cc))
+      (λ u is own. absurd (let e : status.Ok ≡ status.OutOfMemory = sym ok ∙ is in cc))
+
+  -- where a count rose, it was told: of writing as such, of reading unless writing failed or memory was wanting behind it
+  pub run-told_writing : Ends → write_faults (counts before) < write_faults (counts after) → answer ≡ status.WriteFault
+  run-told_writing ends rose = ended ends (answer ≡ status.WriteFault)
+      (λ outcome came put kept decided. absurd (unwritten outcome.unread put.own))
+      (λ slot near came put kept. absurd (unwritten (Some slot) put.own))
+      (λ is failed. is)
+      (λ u is own. absurd (unwritten u own))
+    where
+      unwritten : (u : Option InSlot) → counts after ≡ with_unread u (counts before) → ⊥
+      unwritten u own = omega (arith, rose, ap write_faults own, kept-writing u (counts before))
+
+  pub run-told_reading : Ends → (slot : InSlot) → read_faults slot (counts before) < read_faults slot (counts after) → IsOutsideFault answer
+  run-told_reading ends slot rose = ended ends (IsOutsideFault answer)
+      (λ outcome came put kept decided. absurd (let same = put.own ∙ ap (λ u. with_unread u (counts before)) decided.readable in omega (arith, rose, ap (read_faults slot) same)))
+      (λ other near came put kept. subst IsOutsideFault (sym put.stands) tt)
+      (λ is failed. subst IsOutsideFault (sym is) tt)
+      (λ u is own. subst IsOutsideFault (sym is) tt)

@@ -100,4 +100,4 @@ run-read counts steady seen request before after answer ends ok = ended counts s
     (short request came.contents outcome came.called (sym put.stands ∙ ok)) (near request outcome.opened (decided.reached (sym put.stands ∙ ok))))
     (λ slot near came put kept. absurd (let e : status.Ok ≡ status.ReadFault = sym ok ∙ put.stands in cc))
     (λ is failed. absurd (let e : status.Ok ≡ status.WriteFault = sym ok ∙ is in cc))
-    (λ is. absurd (let e : status.Ok ≡ status.OutOfMemory = sym ok ∙ is in cc))
+    (λ u is own. absurd (let e : status.Ok ≡ status.OutOfMemory = sym ok ∙ is in cc))

@@ -60,7 +60,7 @@ module _ {D : Type 0} (counts : D → Counts) (steady : D → Type 0) (seen : D 
       (λ outcome came put kept decided. by outcome put kept (none outcome decided.silent put.stands))
       (λ slot near came put kept. by (unread faults slot) put kept refl)
       (λ is failed. absurd (no_write is))
-      (λ is. absurd (no_memory is))
+      (λ u is own. absurd (no_memory is))
     where
       none : (outcome : Outcome Status) → (outcome.status ≡ status.Ok) ⊎ (outcome.texts ≡ []) → answer ≡ outcome.status → outcome.texts ≡ []
       none outcome (inl ok) stands = absurd (not_ok (stands ∙ ok))

@@ -180,7 +180,7 @@ run-worth counts steady seen request before after answer ends files told = ended
     (worth files (seen before) (seen after) told request outcome (told-calls counts steady seen request before after answer files told outcome came decided) put.left))
     (λ slot near came put kept. none (subst IsOutsideFault (sym put.stands) tt))
     (λ is failed. none (subst IsOutsideFault (sym is) tt))
-    (λ is. none (subst IsOutsideFault (sym is) tt))
+    (λ u is own. none (subst IsOutsideFault (sym is) tt))
   where
     none : IsOutsideFault answer → IsWorth request files (seen before) (seen after) answer
     none = worthless files (seen before) (seen after) told request answer

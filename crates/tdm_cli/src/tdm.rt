@@ -1,8 +1,8 @@
 //! The top call.
-ghost use Rattle.std.specs.Prelude.{◌≡◌, ◌≢◌, ◌≤◌, ◌⊎◌, [], length, take, drop, map, string_bytes, Some};
+ghost use Rattle.std.specs.Prelude.{◌≡◌, ◌≢◌, ◌<◌, ◌≤◌, ◌⊎◌, [], length, take, drop, map, string_bytes, Some};
 ghost use Rattle.tdm_desk.specs.Files.{Files};
 ghost use Rattle.tdm_desk.specs.Seen.{files_of};
-ghost use Rattle.tdm_desk.specs.Counts.{CountsFaults, ReadingFailed, WritingFailed};
+ghost use Rattle.tdm_desk.specs.Counts.{CountsFaults, ReadingFailed, WritingFailed, read_faults, write_faults};
 ghost use Rattle.tdm_desk.specs.declared.slots.InSlot.{InSlot};
 ghost use Rattle.command_run.specs.Slots.{AreClosed};
 ghost use Rattle.command_run.specs.Ends.{RunEnds};
@@ -100,11 +100,15 @@ pub fn tdm<D: Desk>(alloc: Global, desk: &mut D, words: &[String]) -> Status
     ensures closed { (request : Request) → Asks (map string_bytes words.now) request → result ≡ Ok
         → AreClosed (length (outputs_of request)) (D.seen desk.new) }
 
-    // Faults of the outside are counted by the desk. A read fault is reported of the input whose count rose; at a status
-    // of the command's own no count rose; over a steady desk there are no faults.
+    // Faults of the outside are counted by the desk. A read fault is reported of the input whose count rose; where a
+    // count rose it is told, of reading unless writing failed or memory was wanting while that was said; at a status of the
+    // command's own no count rose; over a steady desk there are no faults.
     ensures read_fault { (request : Request) → Asks (map string_bytes words.now) request → result ≡ ReadFault
         → ReportsReadFault D.counts D.steady D.seen request desk.old desk.new }
     ensures write_fault { result ≡ WriteFault → WritingFailed D.counts D.steady desk.old desk.new }
+    ensures told_writing { write_faults (D.counts desk.old) < write_faults (D.counts desk.new) → result ≡ WriteFault }
+    ensures told_reading { (slot : InSlot)
+        → read_faults slot (D.counts desk.old) < read_faults slot (D.counts desk.new) → IsOutsideFault result }
     ensures uncounted { ¬ IsOutsideFault result → D.counts desk.new ≡ D.counts desk.old }
     ensures counted { CountsFaults D.counts D.steady desk.old desk.new }
     ensures steady { D.steady desk.old → (result ≢ ReadFault) × (result ≢ WriteFault) }

@@ -1,5 +1,5 @@
 use Rattle.tdm_cli.proofs.RequestLaws.{asked, nothing-asked}
-use Rattle.tdm_cli.proofs.EndedLaws.{run-cause, run-exact, run-complete, run-read_fault, run-write_fault, run-uncounted, run-usage, run-closed}
+use Rattle.tdm_cli.proofs.EndedLaws.{run-cause, run-exact, run-complete, run-read_fault, run-write_fault, run-told_writing, run-told_reading, run-uncounted, run-usage, run-closed}
 use Rattle.tdm_cli.proofs.SlotLaws.{run-slots, run-writes_nothing, run-kept}
 use Rattle.tdm_cli.proofs.ReadOutLaws.{run-read}
 use Rattle.tdm_cli.proofs.WorthLaws.{run-worth, bounds-hold}
@@ -55,3 +55,9 @@ pub returns-clause-steady : goal.returns-clause-steady
 returns-clause-steady g c = λ steady.
     let ran = c.run_words.ensures.ran in
     ((λ fault. (run-read_fault _ _ _ ran.0 _ _ _ ran.2 fault).failed.unsteady steady), (λ fault. (run-write_fault _ _ _ ran.0 _ _ _ ran.2 fault).unsteady steady))
+
+pub returns-clause-told_writing : goal.returns-clause-told_writing
+returns-clause-told_writing g c = λ rose. let ran = c.run_words.ensures.ran in run-told_writing _ _ _ ran.0 _ _ _ ran.2 rose
+
+pub returns-clause-told_reading : goal.returns-clause-told_reading
+returns-clause-told_reading g c = λ slot rose. let ran = c.run_words.ensures.ran in run-told_reading _ _ _ ran.0 _ _ _ ran.2 slot rose
