@@ -14,6 +14,8 @@ mod definitions;
 mod eval;
 #[cfg(test)]
 mod fault_tests;
+#[cfg(test)]
+mod large_tests;
 mod numbers;
 mod outcome;
 mod prepare;

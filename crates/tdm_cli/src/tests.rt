@@ -35,7 +35,7 @@ fn ends(
     }
     match (desk.file("s"), desk.file("c")) {
         (Some(text), Some(cert)) => {
-            let agrees = agrees(alloc, board, text, cert, said)?;
+            let agrees = agrees(alloc, board.as_bytes(), text, cert, said.as_bytes())?;
             Ok(answer == Status::Ok && text == solution.as_bytes() && agrees)
         }
         (None, None) => Ok(answer != Status::Ok),
@@ -44,21 +44,21 @@ fn ends(
 }
 
 /// Whether `eval` and `check` say this together of a solution and a certificate of the board.
-fn agrees(
+pub(crate) fn agrees(
     alloc: Global,
-    board: &str,
+    board: &[u8],
     solution: &[u8],
     cert: &[u8],
-    said: &str,
+    said: &[u8],
 ) -> Result<bool, AllocError> {
     let mut desk = MemoryDesk::new(alloc);
-    desk.put_file("b", board.as_bytes())?;
+    desk.put_file("b", board)?;
     desk.put_file("s", solution)?;
     desk.put_file("c", cert)?;
     let judged = run(alloc, &mut desk, &["eval", "b", "s"])?;
     let checked = run(alloc, &mut desk, &["check", "b", "c"])?;
     let both = judged == Status::Ok && checked == Status::Ok;
-    Ok(both && desk.report() == said.as_bytes())
+    Ok(both && desk.report() == said)
 }
 
 /// Runs the words over a desk in memory.
@@ -479,6 +479,8 @@ fn unconnectable_nets_and_a_missing_board_are_reported(rt: HostRuntime) -> Resul
     let missing = run(alloc, &mut desk, &["route", "b", "s", "c"])?;
     assert!(rt; missing == Status::NoInput);
     assert!(rt; desk.report() == "no input 1\n".as_bytes());
+    assert!(rt; desk.file("s").is_none());
+    assert!(rt; desk.file("c").is_none());
     Ok(())
 }
 
@@ -514,5 +516,6 @@ fn an_output_may_replace_the_board_that_was_read(rt: HostRuntime) -> Result<(), 
     assert!(rt; answer == Status::Ok);
     assert!(rt; desk.report() == "value 2\nbound 2\n".as_bytes());
     assert!(rt; desk.file("b") == Some("1\n0 2\n".as_bytes()));
+    assert!(rt; desk.file("c").is_some());
     Ok(())
 }
