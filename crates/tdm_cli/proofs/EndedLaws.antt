@@ -93,10 +93,10 @@ module _ {D : Type 0} (counts : D → Counts) (steady : D → Type 0) (seen : D 
       by (inr is) = inl (status-one request files answer called is calls)
 
   pub run-complete : Ends → (files : Files) → files_of (seen before) ≡ Some files → (called : Status) → StatusFor request files called
-      → ((slot : InSlot) → ReadingFailed counts steady slot before after → ⊥) → (WritingFailed counts steady before after → ⊥) → (answer ≡ called) ⊎ (answer ≡ status.OutOfMemory)
+      → ((slot : InSlot) → place slot ≤ length (inputs_of request) → ReadingFailed counts steady slot before after → ⊥) → (WritingFailed counts steady before after → ⊥) → (answer ≡ called) ⊎ (answer ≡ status.OutOfMemory)
   run-complete ends files told called calls no_read no_write = ended ends ((answer ≡ called) ⊎ (answer ≡ status.OutOfMemory))
       (λ outcome came put kept decided. inl (status-one request files answer called (told-status files told outcome came put decided) calls))
-      (λ slot near came put kept. absurd (no_read slot came.failed))
+      (λ slot near came put kept. absurd (no_read slot near came.failed))
       (λ is failed. absurd (no_write failed))
       (λ u is own. inr is)
 

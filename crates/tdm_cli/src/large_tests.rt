@@ -54,8 +54,8 @@ fn ring_board(alloc: Global) -> Result<Vec<u8>, AllocError> {
     for n in 0..360 {
         push_pair(&mut text, n % 20, (n % 20 + 1 + n / 20) % 20)?;
     }
-    for n in 0..360 {
-        push_line(&mut text, b"", n)?;
+    for n in 0..360u32 {
+        push_line(&mut text, b"", u128::from(n))?;
     }
     Ok(text)
 }

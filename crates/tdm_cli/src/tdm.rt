@@ -4,7 +4,7 @@ ghost use Rattle.tdm_desk.specs.Files.{Files};
 ghost use Rattle.tdm_desk.specs.Seen.{files_of};
 ghost use Rattle.tdm_desk.specs.Counts.{CountsFaults, ReadingFailed, WritingFailed, read_faults, write_faults};
 ghost use Rattle.tdm_desk.specs.declared.slots.InSlot.{InSlot};
-ghost use Rattle.command_run.specs.Slots.{AreClosed};
+ghost use Rattle.command_run.specs.Slots.{place, AreClosed};
 ghost use Rattle.command_run.specs.Ends.{RunEnds};
 ghost use Rattle.tdm_cli.specs.Words.{IsCommand};
 ghost use Rattle.tdm_cli.specs.Kinds.{faults};
@@ -82,7 +82,8 @@ pub fn tdm<D: Desk>(alloc: Global, desk: &mut D, words: &[String]) -> Status
         → files_of (D.seen desk.old) ≡ Some files → IsOutsideFault result ⊎ StatusFor request files result }
     ensures complete { (request : Request) (files : Files) → Asks (map string_bytes words.now) request
         → files_of (D.seen desk.old) ≡ Some files → (called : Status) → StatusFor request files called
-        → ((slot : InSlot) → ReadingFailed D.counts D.steady slot desk.old desk.new → ⊥)
+        → ((slot : InSlot) → place slot ≤ length (inputs_of request)
+        → ReadingFailed D.counts D.steady slot desk.old desk.new → ⊥)
         → (WritingFailed D.counts D.steady desk.old desk.new → ⊥) → (result ≡ called) ⊎ (result ≡ OutOfMemory) }
 
     // Whatever the status, none but the command's own inputs and outputs are touched. No output is touched and no file
