@@ -112,10 +112,9 @@ holds-from opened failed input (text bytes) before between after same held =
 
 held-from : (opened : ℕ) (failed : Option InSlot) (inputs : List Input) (contents : List Content) (before between after : Seen) → files_of between ≡ files_of before → HoldEach opened failed inputs contents between after → HoldEach opened failed inputs contents before after
 held-from opened failed [] [] before between after same held = tt
-held-from opened failed [] (content ∷ contents) before between after same held = held
-held-from opened failed (input ∷ inputs) [] before between after same held = held
 held-from opened failed (input ∷ inputs) (content ∷ contents) before between after same held =
     (holds-from opened failed input content before between after same held.0, held-from opened failed inputs contents before between after same held.1)
+held-from opened failed _ _ before between after same held = held
 
 -- ---- reading
 

@@ -27,11 +27,10 @@ holds-kept opened failed input (text bytes) before between after kept held =
     (held.0, λ near. still-read input.slot input.limit input.name before between after (held.1 near) (kept input.slot))
 
 held-kept : (opened : ℕ) (failed : Option InSlot) (inputs : List Input) (contents : List Content) (before between after : Seen) → KeepsInputs between after → HoldEach opened failed inputs contents before between → HoldEach opened failed inputs contents before after
-held-kept opened failed [] [] before between after kept held = held
-held-kept opened failed [] (content ∷ contents) before between after kept held = held
-held-kept opened failed (input ∷ inputs) [] before between after kept held = held
+held-kept opened failed [] [] before between after kept held = tt
 held-kept opened failed (input ∷ inputs) (content ∷ contents) before between after kept held =
     (holds-kept opened failed input content before between after kept held.0, held-kept opened failed inputs contents before between after kept held.1)
+held-kept opened failed _ _ before between after kept held = held
 
 module _ {D S T : Type 0} (counts : D → Counts) (steady : D → Type 0) (seen : D → Seen) (text_of : T → Bytes) (faults : Faults S) (inputs : List Input) (outputs : List Name) (Calls : List Content → Outcome S → Type 0) (before between after : D) (answer : S) where
   failed-before : (u : Option InSlot) → CountsFaults counts steady between after → HasFailed counts steady u before between → HasFailed counts steady u before after

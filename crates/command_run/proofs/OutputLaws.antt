@@ -1,6 +1,7 @@
 -- What the steps of writing the outputs leave.
 use Rattle.std.proofs.Common.{◌≡◌, ◌⊎◌, ℕ, zero, suc, ◌+◌, ◌-◌, ◌<◌, ◌≤◌, List, [], ◌∷◌, ◌++◌, length, refl, sym, ap, subst, ◌∙◌, inl, inr, arith, take, drop, slice_index_or, map}
 use Rattle.std.specs.Prelude.{Option, Some, None, option_map, IsTrue, IsFalse, Bool, true, false, ◌==◌}
+use Rattle.std.proofs.Math.Nat.{eq-or-lt_of_le}
 use Rattle.std.proofs.lemmas.List.{append-nil, take_all, length-map}
 use Rattle.tdm_desk.specs.declared.slots.OutSlot.{OutSlot}
 use Rattle.tdm_desk.specs.declared.slots.OutSlot.TheVariants.{Out0, Out1, Out2}
@@ -110,12 +111,6 @@ begun-later before between after name text names texts first part = record {
     by [] are = whole-part text
     by (one ∷ more) are = (refl, are)
 
--- all texts are whole
-pub all-begun : (texts : List Bytes) → AreBegun texts texts
-all-begun [] = tt
-all-begun (text ∷ []) = whole-part text
-all-begun (text ∷ next ∷ texts) = (refl, all-begun (next ∷ texts))
-
 -- ---- slots
 
 -- places are counted from 1
@@ -128,16 +123,11 @@ apart : (slot other : OutSlot) → (out_place other ≤ out_place slot - 1) ⊎ 
 unfolding output_place
 apart Out0 Out0 (inl h) e = omega arith
 apart Out0 Out0 (inr h) e = omega arith
-apart Out0 Out1 h e = cc
-apart Out0 Out2 h e = cc
-apart Out1 Out0 h e = cc
 apart Out1 Out1 (inl h) e = omega arith
 apart Out1 Out1 (inr h) e = omega arith
-apart Out1 Out2 h e = cc
-apart Out2 Out0 h e = cc
-apart Out2 Out1 h e = cc
 apart Out2 Out2 (inl h) e = omega arith
 apart Out2 Out2 (inr h) e = omega arith
+apart _ _ h e = cc
 
 pub writes-closed : (out : OutSlot) (before after : Seen) → after ≡ output_closed out before → OnlyWrites (out_place out - 1) (out_place out) before after
 writes-closed out before after is = record {
@@ -201,34 +191,18 @@ writes-then out done count rest before between after is some one two = record {
 -- two outputs at one place are one
 same-place : (a b : OutSlot) → out_place a ≡ out_place b → a ≡ b
 same-place Out0 Out0 e = refl
-same-place Out0 Out1 e = absurd (omega arith)
-same-place Out0 Out2 e = absurd (omega arith)
-same-place Out1 Out0 e = absurd (omega arith)
 same-place Out1 Out1 e = refl
-same-place Out1 Out2 e = absurd (omega arith)
-same-place Out2 Out0 e = absurd (omega arith)
-same-place Out2 Out1 e = absurd (omega arith)
 same-place Out2 Out2 e = refl
-
-at-or-behind : (done : ℕ) (out slot : OutSlot) → out_place out ≡ done + 1 → done < out_place slot → (out_place slot ≡ out_place out) ⊎ (done + 1 < out_place slot)
-at-or-behind done Out0 Out0 is above = inl refl
-at-or-behind done Out1 Out1 is above = inl refl
-at-or-behind done Out2 Out2 is above = inl refl
-at-or-behind done Out0 Out1 is above = inr (omega arith)
-at-or-behind done Out0 Out2 is above = inr (omega arith)
-at-or-behind done Out1 Out2 is above = inr (omega arith)
-at-or-behind done Out1 Out0 is above = absurd (omega arith)
-at-or-behind done Out2 Out0 is above = absurd (omega arith)
-at-or-behind done Out2 Out1 is above = absurd (omega arith)
+same-place _ _ e = absurd (omega arith)
 
 -- one output was closed, and then those behind it
 pub closed-then : (out : OutSlot) (done count rest : ℕ) (between after : Seen) → out_place out ≡ done + 1 → count ≡ rest + 1 → IsFalse (output_is_open out between) → OnlyWrites (done + 1) (done + 1 + rest) between after → AreClosedFrom (done + 1) (done + 1 + rest) after → AreClosedFrom done (done + count) after
-closed-then out done count rest between after is some shut two closed = λ slot above below. by slot above below (at-or-behind done out slot is above)
+closed-then out done count rest between after is some shut two closed = λ slot above below. by slot below (eq-or-lt_of_le {n = done + 1} {m = out_place slot} (omega (arith, above)))
   where
-    by : (slot : OutSlot) → done < out_place slot → out_place slot ≤ done + count → (out_place slot ≡ out_place out) ⊎ (done + 1 < out_place slot) → IsFalse (output_is_open slot after)
-    by slot above below (inl e) =
-        subst (λ o. IsFalse (output_is_open o after)) (sym (same-place slot out e)) (two.outputs out (inl (omega arith)) ∙ shut)
-    by slot above below (inr far) = closed slot far (omega arith)
+    by : (slot : OutSlot) → out_place slot ≤ done + count → (done + 1 ≡ out_place slot) ⊎ (done + 1 < out_place slot) → IsFalse (output_is_open slot after)
+    by slot below (inl e) =
+        subst (λ o. IsFalse (output_is_open o after)) (sym (same-place slot out (sym e ∙ sym is))) (two.outputs out (inl (omega arith)) ∙ shut)
+    by slot below (inr far) = closed slot far (omega arith)
 
 pub opened-is-open : (slot : OutSlot) (name : Name) (before after : Seen) → after ≡ created slot name before → IsTrue (output_is_open slot after)
 opened-is-open slot name before after is = ap (output_is_open slot) is ∙ output_is_open-created slot name before

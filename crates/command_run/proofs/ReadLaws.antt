@@ -19,16 +19,11 @@ pub apart : (slot other : InSlot) → (place other ≤ place slot - 1) ⊎ (plac
 unfolding input_place
 apart In0 In0 (inl h) e = omega arith
 apart In0 In0 (inr h) e = omega arith
-apart In0 In1 h e = cc
-apart In0 In2 h e = cc
-apart In1 In0 h e = cc
 apart In1 In1 (inl h) e = omega arith
 apart In1 In1 (inr h) e = omega arith
-apart In1 In2 h e = cc
-apart In2 In0 h e = cc
-apart In2 In1 h e = cc
 apart In2 In2 (inl h) e = omega arith
 apart In2 In2 (inr h) e = omega arith
+apart _ _ h e = cc
 
 -- an input that is closed is the only slot that is touched
 pub only-closed : (slot : InSlot) (before after : Seen) → after ≡ input_closed slot before → OnlyReads (place slot - 1) (place slot) before after

@@ -12,15 +12,13 @@ use Rattle.command_run.specs.declared.outcome.Decision.TheVariants as decision
 use Rattle.command_run.specs.Outcome.{Outcome, Faults, outcome_of}
 use Rattle.command_run.specs.Decision.{Decides}
 use Rattle.command_run.specs.Concluded.{HasRoom}
-use Rattle.command_run.specs.Inputs.{Input, Content, no_file, unreadable, text, content_of, contents_in, Holds, HoldEach, TextKind, missing, unread, refused, FromText, FromInput, ByInput, ByNone}
+use Rattle.command_run.specs.Inputs.{Input, Content, no_file, unreadable, text, content_of, contents_in, Holds, HoldEach, TextKind, missing, unread, refused, FromText, ByInput, ByNone}
 
 -- ---- what the inputs hold
 
 -- where the desk tells its files and no input failed, the inputs hold what the files do
 pub contents-told : (opened : ℕ) (files : Files) (before after : Seen) → files_of before ≡ Some files → (inputs : List Input) (contents : List Content) → HoldEach opened None inputs contents before after → contents ≡ contents_in files inputs
 contents-told opened files before after told [] [] held = refl
-contents-told opened files before after told [] (content ∷ contents) held = absurd held
-contents-told opened files before after told (input ∷ inputs) [] held = absurd held
 contents-told opened files before after told (input ∷ inputs) (content ∷ contents) held =
     ap (λ c. c ∷ contents) (one content held.0) ∙ ap (λ cs. content_of (get files input.name) ∷ cs) (contents-told opened files before after told inputs contents held.1)
   where
@@ -28,6 +26,7 @@ contents-told opened files before after told (input ∷ inputs) (content ∷ con
     one no_file is = ap content_of (sym (is files told))
     one unreadable is = let e : ◌≡◌ {A = Option InSlot} None (Some input.slot) = is in absurd cc
     one (text bytes) is = ap content_of (sym (is.0 files told))
+contents-told opened files before after told _ _ held = absurd held
 
 -- ---- what an input decides
 
@@ -52,33 +51,6 @@ module _ {S V R : Type 0} (faults : Faults S) (slot : InSlot) (kind : TextKind S
 pub by-none : {S : Type 0} (P : Outcome S → Type 0) (Is : Outcome S → Type 0) → ((outcome : Outcome S) → Is outcome → P outcome) → (contents : List Content) (outcome : Outcome S) → ByNone Is contents outcome → P outcome
 by-none P Is each [] outcome is = each outcome is
 by-none P Is each (content ∷ contents) outcome is = absurd is
-
-module _ {S : Type 0} where
-  -- two outcomes that are called for have one status
-  abbrev pub SameStatus : (Outcome S → Type 0) → Type 0
-  SameStatus Is = (one two : Outcome S) → Is one → Is two → one.status ≡ two.status
-
-  same-outcome : (it : Outcome S) → SameStatus (λ outcome. outcome ≡ it)
-  same-outcome it one two first second = ap (λ o. o.status) (first ∙ sym second)
-
-  module _ {V R : Type 0} (faults : Faults S) (slot : InSlot) (kind : TextKind S V R) where
-    text-one : (said : Result V R) (Then : V → Outcome S → Type 0) → ((value : V) → SameStatus (Then value)) → SameStatus (FromText faults slot kind said Then)
-    text-one (Ok value) Then same = same value
-    text-one (Err refusal) Then same = same-outcome _
-
-    input-one : (content : Content) (Then : V → Outcome S → Type 0) → ((value : V) → SameStatus (Then value)) → SameStatus (FromInput faults slot kind content Then)
-    input-one no_file Then same = same-outcome _
-    input-one unreadable Then same = same-outcome _
-    input-one (text bytes) Then same = text-one (kind.says bytes) Then same
-
-    -- an input calls for one status where all that may follow does
-    pub by-input-one : (Then : V → List Content → Outcome S → Type 0) → ((value : V) (contents : List Content) → SameStatus (Then value contents)) → (contents : List Content) → SameStatus (ByInput faults slot kind Then contents)
-    by-input-one Then same [] = λ one two first second. absurd first
-    by-input-one Then same (content ∷ contents) = input-one content (λ value. Then value contents) (λ value. same value contents)
-
-  pub by-none-one : (Is : Outcome S → Type 0) → SameStatus Is → (contents : List Content) → SameStatus (ByNone Is contents)
-  by-none-one Is same [] = same
-  by-none-one Is same (content ∷ contents) = λ one two first second. absurd first
 
 -- ---- room for the texts
 

@@ -8,4 +8,3 @@ pub mod Decision
 pub mod Outputs
 pub mod Concluded
 pub mod Ends
-pub mod Toy

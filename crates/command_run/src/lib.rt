@@ -19,8 +19,3 @@ pub use reading::read_input;
 pub use report::{push_line, push_number, refused};
 pub use status::RunStatus;
 pub use text::{OutputText, TextFault, TextReader};
-
-#[cfg(test)]
-mod tests;
-#[cfg(test)]
-mod toy;
