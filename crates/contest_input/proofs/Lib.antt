@@ -5,3 +5,6 @@ pub mod KeptNumbers
 pub mod RoleSteps
 pub mod RoleFits
 pub mod Accepted
+pub mod ReadsBack
+pub mod Size
+pub mod Writing
