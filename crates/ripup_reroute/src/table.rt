@@ -48,6 +48,7 @@ impl Table {
         ensures { IfOk result (λ table. (loads : List ℕ) → IsTableAt (board_of graph.now) loads table) }
     {
         let fpgas = graph.fpgas();
+        // A quotient cannot overflow, as a product could; it asks for 19 nets more.
         let entries = if nets / NETS_PER_FPGA > fpgas {
             fpgas as usize * fpgas as usize
         } else {
