@@ -7,3 +7,4 @@ pub mod Rests
 pub mod Reached
 pub mod Wearing
 pub mod GrowingLaws
+pub mod MarkedListLaws

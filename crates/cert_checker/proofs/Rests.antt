@@ -6,6 +6,7 @@ use Rattle.std.proofs.lemmas.List.{get_or_past, get_or_default, length-set, ext_
 use Rattle.std.proofs.lemmas.List.Elements.{Contains-append_left, All-nil, All-push}
 use Rattle.shortest_forest.specs.Arcs.{IsGoal}
 use Rattle.cert_checker.specs.Growing.{arcs_of, AreListed}
+use Rattle.cert_checker.specs.MarkedLists.{IsAdded}
 
 pub arcs-small : (up down : List ℕ) → ((e : ℕ) → slice_index up e ≤ 2 ^ 51) → ((e : ℕ) → slice_index down e ≤ 2 ^ 51) → (e from to : ℕ) → arcs_of up down e from to ≤ 2 ^ 51
 arcs-small up down up_small down_small e from to = go (nat_lt from to) refl
@@ -13,6 +14,12 @@ arcs-small up down up_small down_small e from to = go (nat_lt from to) refl
     go : (b : Bool) → nat_lt from to ≡ b → arcs_of up down e from to ≤ 2 ^ 51
     go true is = omega (arith, up_small e, ap (λ (t : Bool). cond t (slice_index up e) (slice_index down e)) is)
     go false is = omega (arith, down_small e, ap (λ (t : Bool). cond t (slice_index up e) (slice_index down e)) is)
+
+pub all-small : (xs : List ℕ) (most : ℕ) → All (λ x. x ≤ most) xs → (e : ℕ) → slice_index xs e ≤ most
+all-small xs most all e = ⊎_elim
+    (λ (below : e < length xs). all e 0 below)
+    (λ (past : length xs ≤ e). omega (arith, get_or_past xs e 0 past))
+    (cases_lt e (length xs))
 
 -- what is a goal is one of so many FPGAs
 pub goals-inside : (goals : List Bool) (f : ℕ) → IsGoal goals f → f < length goals
@@ -23,7 +30,7 @@ goals-inside goals f is = go (cases_lt f (length goals))
     go (inr past) = absurd (false≢true (sym (get_or_past goals f false past) ∙ is))
 
 -- what is listed stays listed where more is
-pub listed-more : (lengths up down listed : List ℕ) (e : ℕ) → e < length up → AreListed lengths up down listed → AreListed lengths up down (listed ++ e ∷ [])
+listed-more : (lengths up down listed : List ℕ) (e : ℕ) → e < length up → AreListed lengths up down listed → AreListed lengths up down (listed ++ e ∷ [])
 listed-more lengths up down listed e below are = record {
   up_count = are.up_count;
   down_count = are.down_count;
@@ -32,6 +39,10 @@ listed-more lengths up down listed e below are = record {
   down_short = are.down_short;
   whole = λ d. ⊎_elim (λ whole. inl whole) (λ there. inr (Contains-append_left listed (e ∷ []) d there)) (are.whole d);
 }
+
+pub listed-added : (lengths up down listed added : List ℕ) (e : ℕ) → e < length up → IsAdded e listed added → AreListed lengths up down listed → AreListed lengths up down added
+listed-added lengths up down listed added e below (inl same) are = subst (λ (xs : List ℕ). AreListed lengths up down xs) (sym same.0) are
+listed-added lengths up down listed added e below (inr more) are = subst (λ (xs : List ℕ). AreListed lengths up down xs) (sym more) (listed-more lengths up down listed e below are)
 
 -- the rests are whole again, but for wires listed later
 pub record AreRestored (lengths up down listed : List ℕ) (k : ℕ) : Type 0 where

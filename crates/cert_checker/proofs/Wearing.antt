@@ -1,19 +1,23 @@
 -- How falls are taken from what is left of the wires, arc by arc.
-use Rattle.std.proofs.Common.{◌≡◌, ◌≢◌, ℕ, ◌+◌, ◌-◌, ◌<◌, ◌≤◌, ◌⊎◌, List, length, get_or, refl, sym, ap, ◌∙◌, subst, inl, inr, ⊎_elim, arith}
-use Rattle.std.proofs.lemmas.Bool.{cases_eq, cases_order}
+use Rattle.std.proofs.Common.{◌≡◌, ◌≢◌, ℕ, ◌+◌, ◌-◌, ◌<◌, ◌≤◌, ◌⊎◌, List, [], ◌∷◌, Some, length, length-append, get_or, refl, sym, ap, ◌∙◌, subst, inl, inr, ⊎_elim, arith}
+use Rattle.std.specs.Prelude.{AllPairs, Contains, slice_get}
+use Rattle.std.proofs.lemmas.Bool.{cases_eq, cases_lt, cases_order}
+use Rattle.std.proofs.lemmas.List.{get_or_default, get_or_append_left}
 use Rattle.std.proofs.lemmas.List.Elements.{All-get_or}
-use Rattle.std.proofs.lemmas.Option.{get_or_from_slice_get}
+use Rattle.std.proofs.lemmas.Option.{get_or_from_slice_get, slice_get_within}
 use Rattle.tdm_problem.specs.Board.{Board, IsWireOf}
 use Rattle.tdm_problem.specs.Walk.{Links}
 use Rattle.tdm_problem.proofs.Walks.{AnyWire-from_links}
 use Rattle.board_graph.specs.declared.neighbour.Neighbour.{Neighbour}
 use Rattle.board_graph.specs.Graph.{Graph, IsGraph, board_of}
 use Rattle.board_graph.specs.Neighbours.{neighbours_of}
-use Rattle.shortest_forest.specs.Arcs.{Arcs}
+use Rattle.shortest_forest.specs.Arcs.{Arcs, IsArcWalk}
 use Rattle.shortest_forest.proofs.BaselineLaws.{ends-same}
 use Rattle.shortest_forest.proofs.NeighbourLaws.{Links-from_neighbour, neighbour-from_links, neighbours-rise}
-use Rattle.bound_cert.specs.Growth.{worn}
-use Rattle.cert_checker.specs.Growing.{IsWornAt, IsWorn, IsTakenOff}
+use Rattle.bound_cert.specs.Growth.{worn, IsHeight}
+use Rattle.cert_checker.specs.Growing.{HasNear, IsWornAt, IsWorn, IsTakenOff}
+use Rattle.cert_checker.specs.MarkedLists.{IsLonger}
+use Rattle.cert_checker.proofs.MarkedListLaws.{longer-contains}
 
 abbrev pub nowhere : Neighbour
 nowhere = record { wire = 0; fpga = 0 }
@@ -82,6 +86,25 @@ module _ (graph : Graph) (f : ℕ) (heights : ℕ → ℕ) where
               let P : ℕ → ℕ → ℕ → Type 0 = λ w a b. new w a b ≡ mid w a b in
               subst (λ (w : ℕ). P w v u) (sym equal) (subst (λ (a : ℕ). P x.wire a u) (sym ends.0) (subst (λ (b : ℕ). P x.wire x.fpga b) (sym ends.1) taken.back))
 
+  -- the first k neighbours are listed where they have a height
+  abbrev pub IsNearing : (k : ℕ) → (listed : List ℕ) → Type 0
+  IsNearing k listed = (j : ℕ) → j < k → j < length (neighbours_of graph f) → 0 < heights (at j).fpga → Contains listed (at j).fpga
+
+  pub IsNearing-more : (k : ℕ) (listed longer' : List ℕ) (x : Neighbour) → at k ≡ x → IsLonger listed longer' → (0 < heights x.fpga → Contains longer' x.fpga) →
+      IsNearing k listed → IsNearing (k + 1) longer'
+  IsNearing-more k listed longer' x is longer there before j less inside high = go (cases_eq j k)
+    where
+      go : (j ≡ k) ⊎ (j ≡ k → ⊥) → Contains longer' (at j).fpga
+      go (inl even) =
+          let same : at j ≡ x = ap at even ∙ is in
+          subst (λ (n : Neighbour). Contains longer' n.fpga) (sym same) (there (subst (λ (n : Neighbour). 0 < heights n.fpga) same high))
+      go (inr differ) = longer-contains listed longer' (at j).fpga longer (before j (omega (arith, less, differ)) inside high)
+
+  pub HasNear-all : (k : ℕ) (listed : List ℕ) → length (neighbours_of graph f) ≤ k → IsNearing k listed → HasNear (board_of graph) heights f listed
+  HasNear-all k listed whole nearing e u links high =
+      let place = neighbour-from_links graph f e u links in
+      subst (λ (n : Neighbour). 0 < heights n.fpga → Contains listed n.fpga) (place.2 nowhere) (nearing place.0 (omega (arith, place.1, whole)) place.1) high
+
   pub IsWornAt-all : (k : ℕ) (old new : Arcs) → length (neighbours_of graph f) ≤ k → IsWearing k old new → IsWornAt (board_of graph) heights f old new
   IsWornAt-all k old new whole wearing = record {
     here = λ e u links.
@@ -107,35 +130,108 @@ ends-of graph is e a b links =
     (λ back. (omega (arith, wire.b_there, back.1), omega (arith, wire.a_there, back.0), λ same. wire.no_loop (back.0 ∙ sym same ∙ sym back.1)))
     links.ends
 
--- the falls on the ways from the first FPGAs are taken, and no others
-pub record AreWorn (board : Board) (heights : ℕ → ℕ) (f : ℕ) (old new : Arcs) : Type 0 where
-  pub done : (e v u : ℕ) → Links board e v u → v < f → new e v u ≡ worn old heights e v u
-  pub left : (e v u : ℕ) → Links board e v u → f ≤ v → new e v u ≡ old e v u
+-- FPGA f is one of the first k listed
+abbrev pub IsBefore : (near : List ℕ) → (k f : ℕ) → Type 0
+IsBefore near k f = (j : ℕ) × (j < k) × (j < length near) × (get_or near j 0 ≡ f)
+
+-- the falls on the ways from the first k listed FPGAs are taken, and no others, and those that have a height at the ends
+-- of their wires are listed
+pub record AreWorn (board : Board) (heights : ℕ → ℕ) (near : List ℕ) (k : ℕ) (old new : Arcs) : Type 0 where
+  pub each : (e v u : ℕ) → Links board e v u → (IsBefore near k v × (new e v u ≡ worn old heights e v u))
+      ⊎ ((¬ IsBefore near k v) × (new e v u ≡ old e v u))
+  pub closed : (e v u : ℕ) → Links board e v u → IsBefore near k v → 0 < heights u → Contains near u
 
 module _ (board : Board) (heights : ℕ → ℕ) where
-  pub AreWorn-none : (old : Arcs) → AreWorn board heights 0 old old
-  AreWorn-none old = record { done = λ e v u links less. absurd (omega (arith, less)); left = λ e v u links more. refl }
+  pub AreWorn-none : (near : List ℕ) (old : Arcs) → AreWorn board heights near 0 old old
+  AreWorn-none near old = record {
+    each = λ e v u links. inr ((λ before. omega (arith, before.1)), refl);
+    closed = λ e v u links before high. absurd (omega (arith, before.1));
+  }
 
-  pub AreWorn-more : (f : ℕ) (old mid new : Arcs) → AreWorn board heights f old mid → IsWornAt board heights f mid new → AreWorn board heights (f + 1) old new
-  AreWorn-more f old mid new before at = record {
-    done = λ e v u links less. go e v u links less (cases_eq v f);
-    left = λ e v u links more.
-        let other : v ≢ f = λ even. omega (arith, even, more) in
-        at.others e v u links other ∙ before.left e v u links (omega (arith, more));
+  pub AreWorn-more : (near longer' : List ℕ) (k f : ℕ) (old mid new : Arcs) → slice_get near k ≡ Some f → AllPairs (λ x y. x ≢ y) near → IsLonger near longer' →
+      AreWorn board heights near k old mid → IsWornAt board heights f mid new → HasNear board heights f longer' → AreWorn board heights longer' (k + 1) old new
+  AreWorn-more near longer' k f old mid new is distinct longer before at has = record {
+    each = λ e v u links. go e v u links (cases_eq v f);
+    closed = λ e v u links there high. next e v u links high (back v there);
   }
     where
-      go : (e v u : ℕ) → Links board e v u → v < f + 1 → (v ≡ f) ⊎ (v ≡ f → ⊥) → new e v u ≡ worn old heights e v u
-      go e v u links less (inl even) =
-          let untouched : mid e v u ≡ old e v u = before.left e v u links (omega (arith, even)) in
+      below : k < length near
+      below = slice_get_within near k f is
+
+      here : get_or near k 0 ≡ f
+      here = get_or_from_slice_get near k f 0 is
+
+      same : (j : ℕ) → j < length near → get_or longer' j 0 ≡ get_or near j 0
+      same j inside = ap (λ (xs : List ℕ). get_or xs j 0) longer.1 ∙ get_or_append_left near longer.0 0 j inside
+
+      long : length near ≤ length longer'
+      long = omega (arith, ap length longer.1, length-append near longer.0)
+
+      fresh : ¬ IsBefore near k f
+      fresh (j, less, inside, equal) = distinct j k 0 less below (equal ∙ sym here)
+
+      back : (v : ℕ) → IsBefore longer' (k + 1) v → IsBefore near k v ⊎ (v ≡ f)
+      back v (j, less, inside, equal) = by (cases_lt j k)
+        where
+          by : (j < k) ⊎ (k ≤ j) → IsBefore near k v ⊎ (v ≡ f)
+          by (inl earlier) =
+              let within : j < length near = omega (arith, earlier, below) in
+              inl (j, earlier, within, sym (same j within) ∙ equal)
+          by (inr last) =
+              let even : j ≡ k = omega (arith, less, last) in
+              inr (sym equal ∙ ap (λ (i : ℕ). get_or longer' i 0) even ∙ same k below ∙ here)
+
+      on : (v : ℕ) → IsBefore near k v → IsBefore longer' (k + 1) v
+      on v (j, less, inside, equal) = (j, omega (arith, less), omega (arith, inside, long), same j inside ∙ equal)
+
+      last : IsBefore longer' (k + 1) f
+      last = (k, omega arith, omega (arith, below, long), same k below ∙ here)
+
+      go : (e v u : ℕ) → Links board e v u → (v ≡ f) ⊎ (v ≡ f → ⊥) → (IsBefore longer' (k + 1) v × (new e v u ≡ worn old heights e v u))
+          ⊎ ((¬ IsBefore longer' (k + 1) v) × (new e v u ≡ old e v u))
+      go e v u links (inl even) =
           let own : new e v u ≡ worn mid heights e v u = subst (λ (a : ℕ). new e a u ≡ worn mid heights e a u) (sym even) (at.here e u (subst (λ (a : ℕ). Links board e a u) even links)) in
-          omega (arith, own, untouched)
-      go e v u links less (inr differ) = at.others e v u links differ ∙ before.done e v u links (omega (arith, less, differ))
+          let untouched : mid e v u ≡ old e v u = ⊎_elim (λ done. absurd (fresh (subst (λ (a : ℕ). IsBefore near k a) even done.0))) (λ left. left.1) (before.each e v u links) in
+          inl (subst (λ (a : ℕ). IsBefore longer' (k + 1) a) (sym even) last, omega (arith, own, untouched))
+      go e v u links (inr differ) =
+          let kept : new e v u ≡ mid e v u = at.others e v u links differ in
+          ⊎_elim
+          (λ done. inl (on v done.0, kept ∙ done.1))
+          (λ left. inr ((λ there. ⊎_elim (λ earlier. left.0 earlier) (λ even. differ even) (back v there)), kept ∙ left.1))
+          (before.each e v u links)
 
-  pub AreWorn-level : (f : ℕ) (old new : Arcs) → AreWorn board heights f old new → heights f ≡ 0 → AreWorn board heights (f + 1) old new
-  AreWorn-level f old new before low = AreWorn-more f old new new before (record {
-    here = λ e u links. omega (arith, low);
-    others = λ e v u links other. refl;
-  })
+      next : (e v u : ℕ) → Links board e v u → 0 < heights u → IsBefore near k v ⊎ (v ≡ f) → Contains longer' u
+      next e v u links high (inl earlier) = longer-contains near longer' u longer (before.closed e v u links earlier high)
+      next e v u links high (inr even) = has e u (subst (λ (a : ℕ). Links board e a u) even links) high
 
-  pub IsWorn-all : (fpgas : ℕ) (old new : Arcs) → ((e v u : ℕ) → Links board e v u → v < fpgas) → AreWorn board heights fpgas old new → IsWorn board heights old new
-  IsWorn-all fpgas old new inside worn' e v u links = worn'.done e v u links (inside e v u links)
+  -- once all that are listed are worn, all are that have a height
+  pub IsWorn-all : (near : List ℕ) (k x reach : ℕ) (old new : Arcs) → AreWorn board heights near k old new → length near ≤ k → Contains near x →
+      ((f : ℕ) → IsHeight board old x reach f (heights f)) → IsWorn board heights old new
+  IsWorn-all near k x reach old new wore past first are e v u links = go (wore.each e v u links)
+    where
+      before : (f : ℕ) → Contains near f → IsBefore near k f
+      before f there = (there.0, omega (arith, there.1, past), there.1, get_or_default near there.0 0 f there.1 ∙ there.2)
+
+      covered : (a d : ℕ) → Contains near a → ((es : List ℕ) (f total : ℕ) → IsArcWalk board old a es f total → reach ≤ heights f + (d + total)) →
+          (es : List ℕ) (f total : ℕ) → IsArcWalk board old a es f total → d + total < reach → Contains near f
+      covered a d there enough [] f total walk less = subst (λ (g : ℕ). Contains near g) walk.0 there
+      covered a d there enough (w ∷ ws) f total walk less =
+          let b : ℕ = walk.0 in
+          let arc : ℕ = old w a b in
+          let step : reach ≤ heights b + (d + (arc + 0)) = enough (w ∷ []) b (arc + 0) (b, walk.1, (0, (refl, refl), refl)) in
+          let high : 0 < heights b = omega (arith, step, less, walk.2.2) in
+          covered b (d + arc) (wore.closed w a b walk.1 (before a there) high)
+          (λ es g sum way. omega (arith, enough (w ∷ es) g (arc + sum) (b, walk.1, (sum, way, refl)))) ws f walk.2.0 walk.2.1 (omega (arith, less, walk.2.2))
+
+      high-listed : (f : ℕ) → 0 < heights f → Contains near f
+      high-listed f high = ⊎_elim
+          (λ low. absurd (omega (arith, low, high)))
+          (λ way. covered x 0 first (λ es g total walk. omega (arith, (are g).enough es total walk)) way.0 f way.1.0 way.1.1 (omega (arith, way.1.2, high)))
+          (are f).exact
+
+      go : (IsBefore near k v × (new e v u ≡ worn old heights e v u)) ⊎ ((¬ IsBefore near k v) × (new e v u ≡ old e v u)) → new e v u ≡ worn old heights e v u
+      go (inl done) = done.1
+      go (inr left) = ⊎_elim
+          (λ (high : 0 < heights v). absurd (left.0 (before v (high-listed v high))))
+          (λ (low : heights v ≤ 0). omega (arith, left.1, low))
+          (cases_lt 0 (heights v))

@@ -43,6 +43,10 @@ pub record IsWornAt (board : Board) (heights : ℕ → ℕ) (f : ℕ) (old new :
   pub here : (e u : ℕ) → Links board e f u → new e f u ≡ worn old heights e f u
   pub others : (e v u : ℕ) → Links board e v u → v ≢ f → new e v u ≡ old e v u
 
+-- the FPGAs at the other ends of the wires at FPGA f are listed where they have a height
+abbrev pub HasNear : Board → (heights : ℕ → ℕ) → (f : ℕ) → (listed : List ℕ) → Type 0
+HasNear board heights f listed = (e u : ℕ) → Links board e f u → 0 < heights u → Contains listed u
+
 -- the fall of the heights is taken from the rest of each arc
 abbrev pub IsWorn : Board → (heights : ℕ → ℕ) → (old new : Arcs) → Type 0
 IsWorn board heights old new = (e v u : ℕ) → Links board e v u → new e v u ≡ worn old heights e v u

@@ -2,3 +2,4 @@ pub mod Steep
 pub mod NetWeights
 pub mod Answer
 pub mod Growing
+pub mod MarkedLists

@@ -6,22 +6,26 @@ ghost use Rattle.shortest_forest.specs.Arcs.{IsGoal};
 ghost use Rattle.steiner_build.specs.Joining.{HasNoGoals};
 ghost use Rattle.bound_cert.specs.Growth.{GrowOver, IsGrowth};
 ghost use Rattle.bound_cert.specs.Limits.{most_length};
-ghost use Rattle.cert_checker.specs.Growing.{arcs_of, height_in, AreGoals, HasReached, ReachesNone, IsWornAt, IsWorn, IsTakenOff, AreListed, StaysListed};
+ghost use Rattle.cert_checker.specs.MarkedLists.{IsLonger};
+ghost use Rattle.cert_checker.specs.Growing.{arcs_of, height_in, AreGoals, HasNear, HasReached, ReachesNone, IsWornAt, IsWorn, IsTakenOff, AreListed, StaysListed};
 
+use crate::marked_list::MarkedList;
 use board_graph::BoardGraph;
 use shortest_forest::{ArcLengths, MOST_CAP, NoBound, Search, nearest_goal};
 use std::alloc::{AllocError, Global};
 use std::marker::Model;
 
 /// Grows sets of FPGAs towards one another over the same lengths of wires, one set after another. It is made once, and
-/// its memory serves every set: a call allocates only where its lists are longer than ever before.
+/// its memory, which grows with the FPGAs and the wires, serves every set. A call takes time for what it searches alone,
+/// and allocates only where the queue of the search is longer than ever before.
 #[derive(Drop)]
 pub struct Grower {
     search: Search,
     lengths: Vec<u64>,
     up: Vec<u64>,
     down: Vec<u64>,
-    worn: Vec<u32>,
+    worn: MarkedList,
+    near: MarkedList,
 }
 
 impl Model for Grower {
@@ -35,7 +39,8 @@ impl Model for Grower {
     ghost view = { λ g. record { fpgas = length g.search.labels; lengths = g.lengths.items } };
 
     ghost invariant = { λ g. HasNoGoals g.search.goals × (length g.search.goals ≡ length g.search.labels)
-        × (g.up.items ≡ g.lengths.items) × (g.down.items ≡ g.lengths.items) × (g.worn.items ≡ [])
+        × (g.up.items ≡ g.lengths.items) × (g.down.items ≡ g.lengths.items) × (g.worn.listed ≡ []) × (g.worn.limit ≡ length g.lengths.items)
+        × (g.near.limit ≡ length g.search.labels)
         × ((e : ℕ) → slice_index g.lengths.items e ≤ most_length) };
 }
 
@@ -51,12 +56,17 @@ impl Grower {
         let up = lengths.to_vec(alloc)?;
         let down = lengths.to_vec(alloc)?;
         let lengths = lengths.to_vec(alloc)?;
+        let wires = graph.wires();
+        let fpgas = graph.fpgas();
+        let worn = MarkedList::new(alloc, wires)?;
+        let near = MarkedList::new(alloc, fpgas)?;
         Ok(Grower {
             search,
             lengths,
             up,
             down,
-            worn: Vec::new(alloc),
+            worn,
+            near,
         })
     }
 
@@ -83,11 +93,17 @@ impl Grower {
             &mut self.up,
             &mut self.down,
             &mut self.worn,
+            &mut self.near,
             *root,
             growing,
         );
         unmark(&mut self.search, fpgas);
-        restore(&self.lengths, &mut self.up, &mut self.down, &self.worn);
+        restore(
+            &self.lengths,
+            &mut self.up,
+            &mut self.down,
+            self.worn.items(),
+        );
         self.worn.clear();
         grown
     }
@@ -189,7 +205,51 @@ fn take_off(up: &mut Vec<u64>, down: &mut Vec<u64>, wire: u32, from: u32, to: u3
     }
 }
 
-/// Takes the falls of the heights from what is left of the wires on the ways from FPGA `f`, and lists these wires.
+/// Takes a fall, where there is one, from what is left of a wire on the way from one of its ends to the other, and lists
+/// the wire.
+fn wear_wire(
+    up: &mut Vec<u64>,
+    down: &mut Vec<u64>,
+    worn: &mut MarkedList,
+    wire: u32,
+    from: u32,
+    to: u32,
+    fall: u64,
+) -> Result<(), AllocError>
+    requires up { wire < length up.old.items }
+    requires down { wire < length down.old.items }
+    requires limit { worn.old.limit ≡ length up.old.items }
+    requires differ { from ≢ to }
+    ensures taken { OnOk result (IsTakenOff wire from to fall (arcs_of up.old.items down.old.items) (arcs_of up.new.items down.new.items)) }
+    ensures up { length up.new.items ≡ length up.old.items }
+    ensures down { length down.new.items ≡ length down.old.items }
+    ensures limit { worn.new.limit ≡ worn.old.limit }
+    ensures listed { StaysListed up.old.items down.old.items worn.old.listed up.new.items down.new.items worn.new.listed }
+{
+    if fall == 0 {
+        return Ok(());
+    }
+    worn.add(wire)?;
+    take_off(up, down, wire, from, to, fall);
+    Ok(())
+}
+
+/// Lists FPGA `f` where it has a height.
+fn list_near(near: &mut MarkedList, f: u32, height: u64) -> Result<(), AllocError>
+    requires { f < near.old.limit }
+    ensures limit { near.new.limit ≡ near.old.limit }
+    ensures there { OnOk result (0 < height → Contains near.new.listed f) }
+    ensures longer { IsLonger near.old.listed near.new.listed }
+{
+    if height == 0 {
+        return Ok(());
+    }
+    near.add(f)?;
+    Ok(())
+}
+
+/// Takes the falls of the heights from what is left of the wires on the ways from FPGA `f`, and lists these wires and
+/// the FPGAs at their ends that have a height.
 fn wear_at(
     search: &Search,
     graph: &BoardGraph,
@@ -197,52 +257,70 @@ fn wear_at(
     f: u32,
     up: &mut Vec<u64>,
     down: &mut Vec<u64>,
-    worn: &mut Vec<u32>,
+    worn: &mut MarkedList,
+    near: &mut MarkedList,
 ) -> Result<(), AllocError>
     requires graph { IsGraph graph.now }
     requires there { f < graph.now.fpgas }
     requires labels { length search.now.labels ≡ graph.now.fpgas }
     requires up { length up.old.items ≡ length graph.now.wires }
     requires down { length down.old.items ≡ length graph.now.wires }
+    requires worn_limit { worn.old.limit ≡ length graph.now.wires }
+    requires near_limit { near.old.limit ≡ graph.now.fpgas }
     ensures worn { OnOk result (IsWornAt (board_of graph.now) (height_in search.now reach) f
         (arcs_of up.old.items down.old.items) (arcs_of up.new.items down.new.items)) }
+    ensures near { OnOk result (HasNear (board_of graph.now) (height_in search.now reach) f near.new.listed) }
+    ensures longer { IsLonger near.old.listed near.new.listed }
+    ensures near_limit { near.new.limit ≡ near.old.limit }
+    ensures worn_limit { worn.new.limit ≡ worn.old.limit }
     ensures up { length up.new.items ≡ length up.old.items }
     ensures down { length down.new.items ≡ length down.old.items }
-    ensures listed { StaysListed up.old.items down.old.items worn.old.items up.new.items down.new.items worn.new.items }
+    ensures listed { StaysListed up.old.items down.old.items worn.old.listed up.new.items down.new.items worn.new.listed }
 {
     let here = height(search, reach, f);
     for x in graph.neighbours(f) {
         let there = height(search, reach, x.fpga);
-        worn.push(x.wire)?;
-        take_off(up, down, x.wire, f, x.fpga, here.saturating_sub(there));
+        list_near(near, x.fpga, there)?;
+        let fall = here.saturating_sub(there);
+        wear_wire(up, down, worn, x.wire, f, x.fpga, fall)?;
     }
     Ok(())
 }
 
-/// Takes the falls of the heights from what is left of all wires.
+/// Takes the falls of the heights from what is left of all wires, after a search from FPGA `x`: wires lead from there over
+/// FPGAs that have a height to each of them, so no others are looked at.
 fn wear(
     search: &Search,
     graph: &BoardGraph,
     reach: u64,
+    x: u32,
     up: &mut Vec<u64>,
     down: &mut Vec<u64>,
-    worn: &mut Vec<u32>,
+    worn: &mut MarkedList,
+    near: &mut MarkedList,
 ) -> Result<(), AllocError>
     requires graph { IsGraph graph.now }
+    requires there { x < graph.now.fpgas }
     requires labels { length search.now.labels ≡ graph.now.fpgas }
+    requires reached { HasReached (board_of graph.now) (arcs_of up.old.items down.old.items) x search.now reach }
     requires up { length up.old.items ≡ length graph.now.wires }
     requires down { length down.old.items ≡ length graph.now.wires }
+    requires worn_limit { worn.old.limit ≡ length graph.now.wires }
+    requires near_limit { near.old.limit ≡ graph.now.fpgas }
     ensures worn { OnOk result (IsWorn (board_of graph.now) (height_in search.now reach)
         (arcs_of up.old.items down.old.items) (arcs_of up.new.items down.new.items)) }
+    ensures near_limit { near.new.limit ≡ near.old.limit }
+    ensures worn_limit { worn.new.limit ≡ worn.old.limit }
     ensures up { length up.new.items ≡ length up.old.items }
     ensures down { length down.new.items ≡ length down.old.items }
-    ensures listed { StaysListed up.old.items down.old.items worn.old.items up.new.items down.new.items worn.new.items }
+    ensures listed { StaysListed up.old.items down.old.items worn.old.listed up.new.items down.new.items worn.new.listed }
 {
-    for f in 0..graph.fpgas() {
-        if height(search, reach, f) == 0 {
-            continue;
-        }
-        wear_at(search, graph, reach, f, up, down, worn)?;
+    near.clear();
+    near.add(x)?;
+    let mut i = 0;
+    while let Some(f) = near.get(i) {
+        wear_at(search, graph, reach, f, up, down, worn, near)?;
+        i += 1;
     }
     Ok(())
 }
@@ -287,7 +365,8 @@ fn grow_all(
     graph: &BoardGraph,
     up: &mut Vec<u64>,
     down: &mut Vec<u64>,
-    worn: &mut Vec<u32>,
+    worn: &mut MarkedList,
+    near: &mut MarkedList,
     root: u32,
     growing: &[u32],
 ) -> Result<u128, AllocError>
@@ -296,7 +375,9 @@ fn grow_all(
     requires goals { length search.old.goals ≡ graph.now.fpgas }
     requires up { length up.old.items ≡ length graph.now.wires }
     requires down { length down.old.items ≡ length graph.now.wires }
-    requires listed { (lengths : List ℕ) × AreListed lengths up.old.items down.old.items worn.old.items
+    requires worn_limit { worn.old.limit ≡ length graph.now.wires }
+    requires near_limit { near.old.limit ≡ graph.now.fpgas }
+    requires listed { (lengths : List ℕ) × AreListed lengths up.old.items down.old.items worn.old.listed
         × ((e : ℕ) → slice_index lengths e ≤ 2 ^ 51) }
     requires there { All (λ f. f < graph.now.fpgas) growing.now }
     requires distinct { AllPairs (λ x y. x ≢ y) (root ∷ growing.now) }
@@ -308,7 +389,9 @@ fn grow_all(
         ⊎ ((growth ≡ 0) × ¬ IsConnectable (board_of graph.now) (root ∷ growing.now))) }
     ensures up { length up.new.items ≡ length up.old.items }
     ensures down { length down.new.items ≡ length down.old.items }
-    ensures listed { StaysListed up.old.items down.old.items worn.old.items up.new.items down.new.items worn.new.items }
+    ensures worn_limit { worn.new.limit ≡ worn.old.limit }
+    ensures near_limit { near.new.limit ≡ near.old.limit }
+    ensures listed { StaysListed up.old.items down.old.items worn.old.listed up.new.items down.new.items worn.new.listed }
 {
     let mut growth = 0;
     for i in 0..growing.len() {
@@ -321,7 +404,7 @@ fn grow_all(
         if i + 1 == growing.len() {
             return Ok(growth);
         }
-        wear(search, graph, reach, up, down, worn)?;
+        wear(search, graph, reach, x, up, down, worn, near)?;
     }
     Ok(growth)
 }

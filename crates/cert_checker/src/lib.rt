@@ -9,6 +9,7 @@ mod definitions;
 mod growth;
 #[cfg(test)]
 mod growth_tests;
+mod marked_list;
 mod net_weights;
 mod spread;
 mod steep;

@@ -56,6 +56,8 @@ loop-i-preserved c =
       omega (arith, c.reach_from.ensures.labels, ap length c.remove_goal.ensures.labels, c.loop-i.invariant.3),
       omega (arith, ap length c.reach_from.ensures.goals, ap length c.remove_goal.ensures.goals, length-set c.loop-i.search.goals (get_or growing i 0) false, c.loop-i.invariant.4),
       λ lengths are. c.wear.ensures.listed lengths (c.loop-i.invariant.5 lengths are),
+      c.wear.ensures.worn_limit ∙ c.loop-i.invariant.6,
+      c.wear.ensures.near_limit ∙ c.loop-i.invariant.7,
     )
 
 pub returns-clause-growth : goal.returns-clause-growth
@@ -84,3 +86,11 @@ returns-in_err-wear-clause-among c =
     let i = c.loop-i.i in
     let goals = c.reach_from.new.search.goals in
     goals-among root growing (i + 1) goals (goals-after root growing i (omega (arith, c.loop-i-test.true)) c.loop-i.search.goals goals c.requires.distinct c.loop-i.invariant.0.goals_are (c.reach_from.ensures.goals ∙ c.remove_goal.ensures.goals))
+
+pub wear-requires-clause-reached : goal.wear-requires-clause-reached
+wear-requires-clause-reached c =
+    let board = board_of c.args.graph.now in
+    let x = get_or c.args.growing.now c.loop-i.i 0 in
+    let s = c.reach_from.new.search in
+    subst (λ (xs : List ℕ). HasReached board (arcs_of xs c.loop-i.down.items) x s c.in-Some.reach) c.deref.ensures.value
+    (subst (λ (ys : List ℕ). HasReached board (arcs_of c.deref.result.now ys) x s c.in-Some.reach) c.deref-in-loop-i.ensures.value (rw c.in-Some.is at c.in_ok-reach.ensures.reached))

@@ -12,10 +12,10 @@ restore-requires c =
     let lengths = c.self.inside.lengths.items in
     let up = c.grow_all-grown.new.up.items in
     let down = c.grow_all-grown.new.down.items in
-    let listed = c.grow_all-grown.ensures.listed lengths (AreListed-whole lengths c.self.inside.up.items c.self.inside.down.items c.self.inside.worn.items c.self.invariant.2 c.self.invariant.3 c.self.invariant.4) in
+    let listed = c.grow_all-grown.ensures.listed lengths (AreListed-whole lengths c.self.inside.up.items c.self.inside.down.items c.self.inside.worn.listed c.self.invariant.2 c.self.invariant.3 c.self.invariant.4) in
     record {
-      listed = subst (λ (xs : List ℕ). AreListed xs up down c.deref-2.result.now) (sym c.deref.ensures.value)
-          (subst (λ (xs : List ℕ). AreListed lengths up down xs) (sym c.deref-2.ensures.value) listed);
+      listed = subst (λ (xs : List ℕ). AreListed xs up down c.items.result.now) (sym c.deref.ensures.value)
+          (subst (λ (xs : List ℕ). AreListed lengths up down xs) (sym c.items.ensures) listed);
     }
 
 pub grow_all-grown-requires-clause-distinct : goal.grow_all-grown-requires-clause-distinct
