@@ -8,3 +8,5 @@ pub mod Reached
 pub mod Wearing
 pub mod GrowingLaws
 pub mod MarkedListLaws
+pub mod NetGrowthLaws
+pub mod SameGrowth

@@ -3,3 +3,4 @@ pub mod NetWeights
 pub mod Answer
 pub mod Growing
 pub mod MarkedLists
+pub mod NetGrowths

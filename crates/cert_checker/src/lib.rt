@@ -10,12 +10,14 @@ mod growth;
 #[cfg(test)]
 mod growth_tests;
 mod marked_list;
+mod net_growths;
 mod net_weights;
 mod spread;
 mod steep;
 
 pub use answer::{CheckAnswer, check};
 pub use growth::Grower;
+pub use net_growths::growths;
 pub use steep::{Steep, first_steep};
 
 #[cfg(test)]
