@@ -3,7 +3,7 @@ use crate::{BoardFault, BoardKind, BoardReader, BoardRefusal, read_board, write_
 use std::alloc::Global;
 use std::process::Abort;
 use std::test::Fail;
-use tdm_desk::{Desk, MemoryDesk, OutSlot};
+use tdm_desk::{Desk, DeskFault, MemoryDesk, OutSlot};
 use tdm_problem::{Problem, ProblemDraft, Wire};
 
 /// The smallest board on which a net uses a wire.
@@ -185,13 +185,19 @@ fn the_first_fault_is_told_of_a_text_that_comes_byte_by_byte(rt: HostRuntime) {
     }
 }
 
+#[tactic(auto, using(tdm_desk::proofs::SeenLaws::after_calls))]
+fn write_file<D: Desk>(desk: &mut D, problem: &Problem) -> Result<(), DeskFault> {
+    desk.create(OutSlot::Out0, "b")?;
+    write_board(desk, OutSlot::Out0, problem)?;
+    Ok(())
+}
+
 #[test]
 fn a_board_is_written_as_it_is_read(rt: HostRuntime) -> Result<(), Fail> {
     let text = b"3 2 2 1\n0 1\n2 0\n1 0 2\n2\n1 0\n";
     let mut desk = MemoryDesk::new(rt.alloc());
-    desk.create(OutSlot::Out0, "b")?;
     let problem = read(&rt, rt.alloc(), text)?;
-    write_board(&mut desk, OutSlot::Out0, &problem)?;
+    write_file(&mut desk, &problem)?;
     assert!(rt; desk.file("b") == Some(text.as_slice()));
     Ok(())
 }
