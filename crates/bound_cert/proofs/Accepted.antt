@@ -1,6 +1,6 @@
 -- A text that is not refused says a certificate whose numbers keep to their ranges.
 use Rattle.std.proofs.Common.{◌≡◌, ℕ, zero, suc, ◌+◌, ◌<◌, ◌≤◌, cond, Bool, true, false, ◌||◌, ◌&&◌, List, [], ◌∷◌, length, replicate, Option, None, Some, Result, Ok, Err, refl, sym, ap, subst, ◌∙◌, arith}
-use Rattle.std.specs.Prelude.{◌==◌, not, nat_lt, All}
+use Rattle.std.specs.Prelude.{◌==◌, nat_lt, All}
 use Rattle.std.proofs.lemmas.Bool.{ltb-false, eqb-true, eqb-false}
 use Rattle.std.proofs.lemmas.List.{length-replicate}
 use Rattle.std.proofs.lemmas.List.Elements.{All-nil, All-cons, All-weaker, All-replicate}
@@ -18,7 +18,7 @@ use Rattle.bound_cert.specs.declared.refusal.CertTextKind.{CertTextKind}
 use Rattle.bound_cert.specs.declared.refusal.CertTextKind.TheVariants.{NoHeader, BadUnit, BadKind, MissingLine, WeightLimit, LengthLimit, UnknownPotential}
 use Rattle.bound_cert.specs.declared.refusal.CertRefusal.{CertRefusal}
 use Rattle.bound_cert.specs.Certificate.{Cert, IsCert, IsCertFor, IsPotential, HasUnit, HasLengths}
-use Rattle.bound_cert.specs.CertReading.{◌>>=◌, refused, unless_bad, kind_said, count_said, header_said, number_said, potential_said, next_line, line_from, section_from, lengths_from, unless_more, cert_from, cert_of}
+use Rattle.bound_cert.specs.CertReading.{◌>>=◌, refused, unless_bad, grows_said, kind_said, count_said, header_said, number_said, potential_said, next_line, line_from, section_from, lengths_from, choices_from, unless_more, cert_from, cert_of}
 
 -- ---- where there is no refusal, each step says something
 
@@ -45,11 +45,17 @@ positive : (n : ℕ) → (n ≡ 0 → ⊥) → 0 < n
 positive zero some = absurd (some refl)
 positive (suc n) some = omega arith
 
--- where there is a potential there is an FPGA
-some-fpga : (fpgas count : ℕ) → (fpgas == 0 && nat_lt 0 count) ≡ false → 0 < count → 0 < fpgas
-some-fpga zero zero none some = absurd (omega arith)
-some-fpga zero (suc count) none some = grind (arith)
-some-fpga (suc fpgas) count none some = omega arith
+-- where there is a potential there is an FPGA, and nets do not grow
+some-fpga : (grows : Bool) (fpgas count : ℕ) → ((grows || fpgas == 0) && nat_lt 0 count) ≡ false → 0 < count → 0 < fpgas
+some-fpga grows fpgas zero none some = absurd (omega arith)
+some-fpga true fpgas (suc count) none some = grind (arith)
+some-fpga false zero (suc count) none some = grind (arith)
+some-fpga false (suc fpgas) (suc count) none some = omega arith
+
+none-grown : (grows : Bool) (fpgas count : ℕ) → ((grows || fpgas == 0) && nat_lt 0 count) ≡ false → grows ≡ true → count ≡ 0
+none-grown grows fpgas zero none is = refl
+none-grown true fpgas (suc count) none is = grind (arith)
+none-grown false fpgas (suc count) none is = absurd (cc)
 
 -- ---- single lines
 
@@ -67,18 +73,20 @@ kind-within line kind unit out ok = by (kind == 1) (kind == 2) (unit == 0) (nat_
     by false false none large is_none is_large ok = absurd (cc)
 
 -- how many potentials there are
-count-within : (fpgas line count out : ℕ) → count_said fpgas line count ≡ Ok out → (out ≤ most_potentials) × (0 < out → 0 < fpgas)
-count-within fpgas line count out ok =
-    let said = unless-ok (nat_lt most_potentials count || (fpgas == 0 && nat_lt 0 count)) _ (Ok count) out ok in
-    let both = or-none (nat_lt most_potentials count) (fpgas == 0 && nat_lt 0 count) said.0 in
+count-within : (grows : Bool) (fpgas line count out : ℕ) → count_said grows fpgas line count ≡ Ok out → (out ≤ most_potentials) × (0 < out → 0 < fpgas) × (grows ≡ true → out ≡ 0)
+count-within grows fpgas line count out ok =
+    let said = unless-ok (nat_lt most_potentials count || ((grows || fpgas == 0) && nat_lt 0 count)) _ (Ok count) out ok in
+    let both = or-none (nat_lt most_potentials count) ((grows || fpgas == 0) && nat_lt 0 count) said.0 in
     let equal = ok-equal count out said.1 in
-    subst (λ n. (n ≤ most_potentials) × (0 < n → 0 < fpgas)) equal (ltb-false most_potentials count both.0, some-fpga fpgas count both.1)
+    subst (λ n. (n ≤ most_potentials) × (0 < n → 0 < fpgas) × (grows ≡ true → n ≡ 0)) equal
+    (ltb-false most_potentials count both.0, some-fpga grows fpgas count both.1, none-grown grows fpgas count both.1)
 
 -- a header
 record IsHeader (fpgas : ℕ) (header : Header) : Type 0 where
   kind : HasUnit header.kind
   few : header.potentials ≤ most_potentials
   some : 0 < header.potentials → 0 < fpgas
+  grown : header.grows ≡ true → header.potentials ≡ 0
 
 header-within : (fpgas line : ℕ) (numbers : List ℕ) (out : Header) → header_said fpgas line numbers ≡ Ok out → IsHeader fpgas out
 header-within fpgas line [] out ok = absurd (cc)
@@ -86,14 +94,15 @@ header-within fpgas line (a ∷ []) out ok = absurd (cc)
 header-within fpgas line (a ∷ b ∷ []) out ok = absurd (cc)
 header-within fpgas line (a ∷ b ∷ c ∷ []) out ok = absurd (cc)
 header-within fpgas line (version ∷ kind ∷ unit ∷ count ∷ []) out ok =
-    let first = unless-ok (not (version == 1)) _ _ out ok in
-    let kinded = bind-ok (kind_said line kind unit) _ out first.1 in
-    let counted = bind-ok (count_said fpgas line count) _ out kinded.2 in
-    let counts = count-within fpgas line count counted.0 counted.1 in
+    let grown = bind-ok (grows_said line version) _ out ok in
+    let kinded = bind-ok (kind_said line kind unit) _ out grown.2 in
+    let counted = bind-ok (count_said grown.0 fpgas line count) _ out kinded.2 in
+    let counts = count-within grown.0 fpgas line count counted.0 counted.1 in
     subst (IsHeader fpgas) (ok-equal _ out counted.2) (record {
       kind = kind-within line kind unit kinded.0 kinded.1;
       few = counts.0;
       some = counts.1;
+      grown = counts.2;
     })
 header-within fpgas line (a ∷ b ∷ c ∷ d ∷ e ∷ more) out ok = absurd (cc)
 
@@ -188,6 +197,15 @@ potentials-say after fpgas zero lines out some ok are =
 potentials-say after fpgas (suc count) lines out some ok are =
     section-says after most_potential_value (potential_said fpgas) (IsPotentialOf fpgas) (λ line numbers x within said. potential-holds fpgas line numbers x (some (omega arith)) within said) (suc count) lines out ok are
 
+-- the choices are of potentials that are there
+choices-say : (after largest : ℕ) (grows : Bool) (potentials nets : ℕ) (lines : List Line) (out : List ℕ × List Line) → choices_from after grows potentials nets lines ≡ Ok out → AreWithin largest lines
+    → All (λ c. c ≤ potentials) out.0 × (length out.0 ≡ nets) × AreWithin largest out.1
+choices-say after largest true potentials nets lines out ok are =
+    subst (λ (o : List ℕ × List Line). All (λ c. c ≤ potentials) o.0 × (length o.0 ≡ nets) × AreWithin largest o.1) (ok-equal (replicate nets 0, lines) out ok)
+    (All-replicate (λ c. c ≤ potentials) nets 0 (omega arith), length-replicate nets (let none : ℕ = 0 in none), are)
+choices-say after largest false potentials nets lines out ok are =
+    section-says after largest (number_said UnknownPotential potentials) (λ c. c ≤ potentials) (λ line numbers x within. number-within UnknownPotential potentials line numbers x) nets lines out ok are
+
 accepted-lines : (after : ℕ) (board : Board) (lines : List Line) (cert : Cert) → AreWithin most_potential_value lines → cert_from after board lines ≡ Ok cert → IsCert cert × IsCertFor board cert
 accepted-lines after board lines cert are ok =
     let header = bind-ok (line_from after NoHeader (header_said board.fpgas) lines) _ cert ok in
@@ -198,13 +216,14 @@ accepted-lines after board lines cert are ok =
     let measured = lengths-say after most_potential_value header.0.0.kind (length board.wires) weights.0.1 lengths.0 headed.0.kind lengths.1 weighed.2 in
     let potentials = bind-ok (section_from after (potential_said board.fpgas) header.0.0.potentials lengths.0.1) _ cert lengths.2 in
     let valued = potentials-say after board.fpgas header.0.0.potentials lengths.0.1 potentials.0 headed.0.some potentials.1 measured.2 in
-    let choices = bind-ok (section_from after (number_said UnknownPotential header.0.0.potentials) (length board.nets) potentials.0.1) _ cert potentials.2 in
-    let chosen = section-says after most_potential_value (number_said UnknownPotential header.0.0.potentials) (λ c. c ≤ header.0.0.potentials) (λ line numbers x within. number-within UnknownPotential header.0.0.potentials line numbers x) (length board.nets) potentials.0.1 choices.0 choices.1 valued.2 in
+    let choices = bind-ok (choices_from after header.0.0.grows header.0.0.potentials (length board.nets) potentials.0.1) _ cert potentials.2 in
+    let chosen = choices-say after most_potential_value header.0.0.grows header.0.0.potentials (length board.nets) potentials.0.1 choices.0 choices.1 valued.2 in
     subst (λ (c : Cert). IsCert c × IsCertFor board c) (unless_more-ok _ choices.0.1 cert choices.2) (
       record {
         weights = weighed.0;
         lengths = measured.0;
         potential_limit = omega (arith, headed.0.few, valued.1);
+        grown = λ grows. omega (arith, headed.0.grown grows, valued.1);
         potentials = All-weaker (IsPotentialOf board.fpgas) IsPotential (λ potential is. is.is) potentials.0.0 valued.0;
         choices = subst (λ count. All (λ c. c ≤ count) choices.0.0) (sym valued.1) chosen.0;
       },

@@ -1,5 +1,5 @@
 -- What is written reads back.
-use Rattle.std.proofs.Common.{◌≡◌, ℕ, suc, ◌+◌, ◌<◌, ◌≤◌, ◌^◌, true, false, ◌&&◌, Bool, nat_eq, List, [], ◌∷◌, ◌++◌, length, replicate, get_or, All, Result, Ok, refl, sym, ap, ◌∙◌, arith, append_assoc}
+use Rattle.std.proofs.Common.{◌≡◌, ℕ, suc, ◌+◌, ◌<◌, ◌≤◌, ◌^◌, true, false, ◌&&◌, ◌||◌, Bool, nat_eq, List, [], ◌∷◌, ◌++◌, length, replicate, get_or, All, Result, Ok, refl, sym, ap, ◌∙◌, arith, append_assoc}
 use Rattle.std.specs.List.{flat_map}
 use Rattle.std.proofs.lemmas.List.{append-nil}
 use Rattle.std.proofs.lemmas.List.Elements.{All-nil, All-cons, All-head, All-tail, All-weaker}
@@ -15,8 +15,8 @@ use Rattle.bound_cert.specs.declared.refusal.CertTextKind.{CertTextKind}
 use Rattle.bound_cert.specs.declared.refusal.CertTextKind.TheVariants.{NoHeader, WeightLimit, LengthLimit, UnknownPotential, MissingLine}
 use Rattle.bound_cert.specs.declared.refusal.CertRefusal.{CertRefusal}
 use Rattle.bound_cert.specs.Certificate.{Cert, IsCert, IsCertFor, IsPotential, HasLengths}
-use Rattle.bound_cert.specs.CertText.{number_of_kind, unit_of_kind, listed_lengths, header_row, number_line, cert_text}
-use Rattle.bound_cert.specs.CertReading.{kind_said, count_said, header_said, number_said, potential_said, line_from, section_from, lengths_from, cert_from, cert_of}
+use Rattle.bound_cert.specs.CertText.{version_of, number_of_kind, unit_of_kind, listed_lengths, listed_choices, header_row, number_line, cert_text}
+use Rattle.bound_cert.specs.CertReading.{grows_said, kind_said, count_said, header_said, number_said, potential_said, line_from, section_from, lengths_from, choices_from, cert_from, cert_of}
 
 -- a row that says a thing, wherever its line stands
 record Says {A : Type 0} (said : ℕ → List ℕ → Result A CertRefusal) (row : List ℕ) (x : A) : Type 0 where
@@ -79,12 +79,22 @@ and-false true = refl
 and-false false = refl
 
 -- potentials that have values stand on a board with FPGAs
-count_says : (fpgas line : ℕ) (potentials : List (List ℕ)) → length potentials ≤ most_potentials → All IsPotential potentials → All (λ values. length values ≡ fpgas) potentials → count_said fpgas line (length potentials) ≡ Ok (length potentials)
-count_says fpgas line [] few are counts = rw (and-false (nat_eq fpgas 0)) refl
-count_says fpgas line (values ∷ potentials) few are counts =
+count_says : (grows : Bool) (fpgas line : ℕ) (potentials : List (List ℕ)) → (grows ≡ true → length potentials ≡ 0) → length potentials ≤ most_potentials → All IsPotential potentials → All (λ values. length values ≡ fpgas) potentials → count_said grows fpgas line (length potentials) ≡ Ok (length potentials)
+count_says grows fpgas line [] none few are counts = rw (and-false (grows || nat_eq fpgas 0)) refl
+count_says true fpgas line (values ∷ potentials) none few are counts = absurd (omega (arith, none refl))
+count_says false fpgas line (values ∷ potentials) none few are counts =
     let first = All-head IsPotential values potentials are in
     let count : length values ≡ fpgas = All-head (λ vs. length vs ≡ fpgas) values potentials counts in
     rw (le-ltb most_potentials (length (values ∷ potentials)) few, ne_eqb fpgas 0 (λ e. omega (arith, first.some, count))) refl
+
+-- the version
+grows_says : (grows : Bool) (line : ℕ) → grows_said line (version_of grows) ≡ Ok grows
+grows_says true line = refl
+grows_says false line = refl
+
+version_fits : (grows : Bool) → version_of grows ≤ most_potential_value
+version_fits true = omega arith
+version_fits false = omega arith
 
 -- the header
 kind_fits : (kind : CertKind) → number_of_kind kind ≤ most_potential_value
@@ -100,11 +110,11 @@ row_of_four a b c d e f g h =
     let Fit : ℕ → Type 0 = λ n. n ≤ most_potential_value in
     record { some = omega arith; within = All-cons Fit a (b ∷ c ∷ d ∷ []) e (All-cons Fit b (c ∷ d ∷ []) f (All-cons Fit c (d ∷ []) g (All-cons Fit d [] h (All-nil Fit)))) }
 
-header_says : (board : Board) (cert : Cert) → IsCert cert → IsCertFor board cert → Says (header_said board.fpgas) (header_row cert) (record { kind = cert.kind; potentials = length cert.potentials })
+header_says : (board : Board) (cert : Cert) → IsCert cert → IsCertFor board cert → Says (header_said board.fpgas) (header_row cert) (record { kind = cert.kind; grows = cert.grows; potentials = length cert.potentials })
 header_says board cert is is_for = record {
-  is_row = row_of_four 1 (number_of_kind cert.kind) (unit_of_kind cert.kind) (length cert.potentials)
-      (omega arith) (kind_fits cert.kind) (unit_fits cert.kind cert.lengths is.lengths) (omega (arith, is.potential_limit));
-  says = λ line. rw (kind_says cert.kind cert.lengths line is.lengths, count_says board.fpgas line cert.potentials is.potential_limit is.potentials is_for.potentials) refl;
+  is_row = row_of_four (version_of cert.grows) (number_of_kind cert.kind) (unit_of_kind cert.kind) (length cert.potentials)
+      (version_fits cert.grows) (kind_fits cert.kind) (unit_fits cert.kind cert.lengths is.lengths) (omega (arith, is.potential_limit));
+  says = λ line. rw (grows_says cert.grows line, kind_says cert.kind cert.lengths line is.lengths, count_says cert.grows board.fpgas line cert.potentials is.grown is.potential_limit is.potentials is_for.potentials) refl;
 }
 
 -- ---- the lengths
@@ -123,6 +133,18 @@ lengths_read after (Hop unit) lengths n rest has =
     let here : n + 0 ≡ n = omega arith in
     rw (here, all_same unit lengths has.2) refl
 
+-- ---- the choices
+
+all_none : (count : ℕ) (choices : List ℕ) → count ≡ 0 → All (λ c. c ≤ count) choices → All (λ c. c ≡ 0) choices
+all_none count choices none few = All-weaker (λ c. c ≤ count) (λ c. c ≡ 0) (λ c le. omega (arith, le, none)) choices few
+
+choices_read : (after : ℕ) (grows : Bool) (count : ℕ) (choices : List ℕ) (n : ℕ) → (grows ≡ true → count ≡ 0) → count ≤ most_potentials → All (λ c. c ≤ count) choices
+    → choices_from after grows count (length choices) (lines_from most_potential_value n (pieces (flat_map number_line (listed_choices grows choices) ++ [])))
+    ≡ Ok (choices, lines_from most_potential_value (n + length (listed_choices grows choices)) (pieces []))
+choices_read after true count choices n none few within = rw (all_same 0 choices (all_none count choices (none refl) within)) refl
+choices_read after false count choices n none few within =
+    section_read after (number_said UnknownPotential count) (λ c. c ∷ []) choices n [] (numbers_say UnknownPotential count choices (omega (arith, few)) within)
+
 -- ---- the whole text
 
 -- five texts one after another, from the first on
@@ -134,19 +156,19 @@ lines_read board cert after is is_for =
     let weights : List ℕ = flat_map number_line cert.weights in
     let lengths : List ℕ = flat_map number_line (listed_lengths cert.kind cert.lengths) in
     let potentials : List ℕ = flat_map line_text cert.potentials in
-    let choices : List ℕ = flat_map number_line cert.choices in
+    let choices : List ℕ = flat_map number_line (listed_choices cert.grows cert.choices) in
     let n : ℕ = 2 + length cert.weights in
     let m : ℕ = n + length (listed_lengths cert.kind cert.lengths) in
     rw (
       five_texts (line_text (header_row cert)) weights lengths potentials choices,
-      line_read after (header_said board.fpgas) NoHeader (header_row cert) (record { kind = cert.kind; potentials = length cert.potentials }) 1 (weights ++ (lengths ++ (potentials ++ (choices ++ [])))) (header_says board cert is is_for),
+      line_read after (header_said board.fpgas) NoHeader (header_row cert) (record { kind = cert.kind; grows = cert.grows; potentials = length cert.potentials }) 1 (weights ++ (lengths ++ (potentials ++ (choices ++ [])))) (header_says board cert is is_for),
       ← is_for.weights,
       section_read after (number_said WeightLimit most_weight) (λ w. w ∷ []) cert.weights 2 (lengths ++ (potentials ++ (choices ++ []))) (numbers_say WeightLimit most_weight cert.weights (omega arith) is.weights),
       ← is_for.lengths,
       lengths_read after cert.kind cert.lengths n (potentials ++ (choices ++ [])) is.lengths,
       section_read after (potential_said board.fpgas) (λ values. values) cert.potentials m (choices ++ []) (potentials_say board.fpgas cert.potentials is.potentials is_for.potentials),
       ← is_for.choices,
-      section_read after (number_said UnknownPotential (length cert.potentials)) (λ c. c ∷ []) cert.choices (m + length cert.potentials) [] (numbers_say UnknownPotential (length cert.potentials) cert.choices (omega (arith, is.potential_limit)) is.choices),
+      choices_read after cert.grows (length cert.potentials) cert.choices (m + length cert.potentials) is.grown is.potential_limit is.choices,
     ) refl
 
 pub text_reads_back : (board : Board) (cert : Cert) → IsCert cert → IsCertFor board cert → length (cert_text cert) ≤ 2 ^ 30 → cert_of board (cert_text cert) ≡ Ok cert

@@ -1,5 +1,5 @@
 -- How long a certificate's text is.
-use Rattle.std.proofs.Common.{ℕ, ◌≡◌, ◌+◌, ◌*◌, ◌^◌, ◌<◌, ◌≤◌, List, [], ◌∷◌, ◌++◌, length, sum_by, All, sym, ap, ◌∙◌, arith, length-append}
+use Rattle.std.proofs.Common.{ℕ, Bool, true, false, ◌≡◌, ◌+◌, ◌*◌, ◌^◌, ◌<◌, ◌≤◌, List, [], ◌∷◌, ◌++◌, length, sum_by, All, sym, ap, ◌∙◌, arith, length-append}
 use Rattle.std.specs.List.{flat_map}
 use Rattle.std.proofs.lemmas.List.Elements.{All-head, All-tail, All-weaker}
 use Rattle.std.proofs.lemmas.List.Sums.{sum_by-cons}
@@ -13,7 +13,7 @@ use Rattle.bound_cert.specs.declared.certificate.CertKind.{CertKind}
 use Rattle.bound_cert.specs.declared.certificate.CertKind.TheVariants.{Share, Hop}
 use Rattle.bound_cert.specs.Limits.{most_weight, most_length, most_unit, most_potentials, most_potential_value}
 use Rattle.bound_cert.specs.Certificate.{Cert, IsCert, IsCertFor, IsPotential, HasLengths}
-use Rattle.bound_cert.specs.CertText.{header_row, listed_lengths, number_of_kind, unit_of_kind, number_line, cert_text}
+use Rattle.bound_cert.specs.CertText.{header_row, listed_lengths, listed_choices, version_of, number_of_kind, unit_of_kind, number_line, cert_text}
 
 -- ---- lines of one number
 
@@ -41,8 +41,9 @@ length-lengths Share lengths within =
     omega (arith, length-column 15 lengths short)
 length-lengths (Hop unit) lengths within = omega arith
 
-length-choices : (count : ℕ) (choices : List ℕ) → count ≤ most_potentials → All (λ c. c ≤ count) choices → length (flat_map number_line choices) ≤ 5 * length choices
-length-choices count choices few within =
+length-choices : (grows : Bool) (count : ℕ) (choices : List ℕ) → count ≤ most_potentials → All (λ c. c ≤ count) choices → length (flat_map number_line (listed_choices grows choices)) ≤ 5 * length choices
+length-choices true count choices few within = omega arith
+length-choices false count choices few within =
     let short : All (λ c. length (digits c) ≤ 4) choices =
     All-weaker (λ c. c ≤ count) (λ c. length (digits c) ≤ 4) (λ c le. length-decimal-le_wide 4 c (omega arith) (omega (arith, few)) (omega (arith, few))) choices within in
     omega (arith, length-column 4 choices short)
@@ -77,6 +78,10 @@ length-potentials (values ∷ potentials) are =
 
 -- ---- the header
 
+digits-version : (grows : Bool) → length (digits (version_of grows)) ≤ 1
+digits-version true = length-decimal-le_wide 1 4 (omega arith) (omega arith) (omega arith)
+digits-version false = length-decimal-le_wide 1 1 (omega arith) (omega arith) (omega arith)
+
 digits-kind : (kind : CertKind) → length (digits (number_of_kind kind)) ≤ 1
 digits-kind Share = length-decimal-le_wide 1 1 (omega arith) (omega arith) (omega arith)
 digits-kind (Hop unit) = length-decimal-le_wide 1 2 (omega arith) (omega arith) (omega arith)
@@ -85,17 +90,16 @@ digits-unit : (kind : CertKind) (lengths : List ℕ) → HasLengths kind lengths
 digits-unit Share lengths has = length-decimal-le_wide 7 0 (omega arith) (omega arith) (omega arith)
 digits-unit (Hop unit) lengths has = let most : unit ≤ most_unit = has.1 in length-decimal-le_wide 7 unit (omega arith) (omega arith) (omega arith)
 
-length-header : (kind unit count : ℕ) → length (digits kind) ≤ 1 → length (digits unit) ≤ 7 → length (digits count) ≤ 4 → length (line_text (1 ∷ kind ∷ unit ∷ count ∷ [])) ≤ 17
-length-header kind unit count a b c =
-    let one : length (digits 1) ≤ 1 = length-decimal-le_wide 1 1 (omega arith) (omega arith) (omega arith) in
+length-header : (version kind unit count : ℕ) → length (digits version) ≤ 1 → length (digits kind) ≤ 1 → length (digits unit) ≤ 7 → length (digits count) ≤ 4 → length (line_text (version ∷ kind ∷ unit ∷ count ∷ [])) ≤ 17
+length-header version kind unit count v a b c =
     omega (
       arith,
-      one,
+      v,
       a,
       b,
       c,
-      length-append (digits 1 ++ 32 ∷ (digits kind ++ 32 ∷ (digits unit ++ 32 ∷ digits count))) (10 ∷ []),
-      length-append (digits 1) (32 ∷ (digits kind ++ 32 ∷ (digits unit ++ 32 ∷ digits count))),
+      length-append (digits version ++ 32 ∷ (digits kind ++ 32 ∷ (digits unit ++ 32 ∷ digits count))) (10 ∷ []),
+      length-append (digits version) (32 ∷ (digits kind ++ 32 ∷ (digits unit ++ 32 ∷ digits count))),
       length-append (digits kind) (32 ∷ (digits unit ++ 32 ∷ digits count)),
       length-append (digits unit) (32 ∷ digits count),
     )
@@ -111,12 +115,12 @@ length-cert_text cert is =
     let count : length (digits (length cert.potentials)) ≤ 4 = length-decimal-le_wide 4 (length cert.potentials) (omega arith) (omega (arith, is.potential_limit)) (omega (arith, is.potential_limit)) in
     omega (
       arith,
-      length-five (line_text (header_row cert)) (flat_map number_line cert.weights) (flat_map number_line (listed_lengths cert.kind cert.lengths)) (flat_map line_text cert.potentials) (flat_map number_line cert.choices),
-      length-header (number_of_kind cert.kind) (unit_of_kind cert.kind) (length cert.potentials) (digits-kind cert.kind) (digits-unit cert.kind cert.lengths is.lengths) count,
+      length-five (line_text (header_row cert)) (flat_map number_line cert.weights) (flat_map number_line (listed_lengths cert.kind cert.lengths)) (flat_map line_text cert.potentials) (flat_map number_line (listed_choices cert.grows cert.choices)),
+      length-header (version_of cert.grows) (number_of_kind cert.kind) (unit_of_kind cert.kind) (length cert.potentials) (digits-version cert.grows) (digits-kind cert.kind) (digits-unit cert.kind cert.lengths is.lengths) count,
       length-weights cert.weights is.weights,
       length-lengths cert.kind cert.lengths is.lengths,
       length-potentials cert.potentials is.potentials,
-      length-choices (length cert.potentials) cert.choices is.potential_limit is.choices,
+      length-choices cert.grows (length cert.potentials) cert.choices is.potential_limit is.choices,
     )
 
 pub never_too_long : (board : Board) (cert : Cert) → IsBoard board → IsCert cert → IsCertFor board cert → sum_by length cert.potentials ≤ 2 ^ 24 → length (cert_text cert) ≤ 2 ^ 30

@@ -8,7 +8,7 @@ use Rattle.tdm_lines.specs.Written.{line_text}
 use Rattle.text_writer.specs.Writing.{IsUnderWay}
 use Rattle.text_writer.proofs.UnderWay.{prefix_first, prefix_later}
 use Rattle.bound_cert.specs.Certificate.{Cert}
-use Rattle.bound_cert.specs.CertText.{header_row, listed_lengths, number_line, cert_text}
+use Rattle.bound_cert.specs.CertText.{header_row, listed_lengths, listed_choices, number_line, cert_text}
 
 module _ (cert : Cert) where
   abbrev pub weights_text : Bytes
@@ -21,7 +21,7 @@ module _ (cert : Cert) where
   potentials_text = flat_map line_text cert.potentials
 
   abbrev pub choices_text : Bytes
-  choices_text = flat_map number_line cert.choices
+  choices_text = flat_map number_line (listed_choices cert.grows cert.choices)
 
   -- the text up to each part
   abbrev pub to_header : Bytes

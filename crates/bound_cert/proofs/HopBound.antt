@@ -15,9 +15,8 @@ use Rattle.tdm_problem.specs.Weights.{weighted_sums}
 use Rattle.tdm_problem.proofs.SumsBelow.{sum_below-le, sum_below-times}
 use Rattle.tdm_problem.proofs.Exchanges.{weighted_by-nets, weighted_sums-le_value}
 use Rattle.bound_cert.specs.Certificate.{Cert, length_of}
-use Rattle.bound_cert.specs.Valid.{IsValid}
-use Rattle.bound_cert.specs.Bound.{net_spread, weight_of_net, weight_spreads}
-use Rattle.bound_cert.proofs.NetSpreads.{net_length, net_spread-le_length}
+use Rattle.bound_cert.specs.Bound.{weight_of_net, weight_sum}
+use Rattle.bound_cert.proofs.NetSpreads.{net_length, AreShort, weight-short}
 
 -- where each listed length is the unit, no wire is longer
 length_of-le_unit : (cert : Cert) (unit : ℕ) → All (λ l. l ≡ unit) cert.lengths → (e : ℕ) → length_of cert e ≤ unit
@@ -44,27 +43,27 @@ unit-times_ratios cert unit short (u ∷ uses) even =
     rw (sum_by-cons (λ (v : WireUse). length_of cert v.wire) u uses, sum_by-cons (λ (v : WireUse). v.ratio) u uses) (omega (arith, here, rest))
 
 -- one net's share of both sides
-times-weight : (weight spread length unit ratios : ℕ) → spread ≤ length → 2 * length ≤ unit * ratios → 2 * (weight * spread) ≤ unit * (weight * ratios)
+times-weight : (weight spread length unit ratios : ℕ) → weight * spread ≤ weight * length → 2 * length ≤ unit * ratios → 2 * (weight * spread) ≤ unit * (weight * ratios)
 times-weight weight spread length unit ratios short long =
-    let scaled : weight * (2 * spread) ≤ weight * (unit * ratios) = mul-le-mul_left weight (omega (arith, short, long)) in
-    omega (arith, scaled)
+    let scaled : weight * (2 * length) ≤ weight * (unit * ratios) = mul-le-mul_left weight long in
+    omega (arith, scaled, short)
 
 -- twice the spreads of all nets, by their weights, is at most the unit times the sum of the weights times the value
-pub hop-demand_le : (board : Board) (cert : Cert) (routing : Routing) (unit : ℕ) → All (λ l. l ≡ unit) cert.lengths →
-    IsBoard board → IsValid board cert → IsLegal board routing →
-    2 * weight_spreads board cert ≤ unit * sum cert.weights * value_of board routing
-hop-demand_le board cert routing unit units is valid legal =
+pub hop-demand_le : (board : Board) (cert : Cert) (routing : Routing) (spreads : ℕ → ℕ) (unit : ℕ) → All (λ l. l ≡ unit) cert.lengths →
+    IsBoard board → AreShort board cert routing spreads → IsLegal board routing →
+    2 * weight_sum board cert spreads ≤ unit * sum cert.weights * value_of board routing
+hop-demand_le board cert routing spreads unit units is short legal =
     let nets : ℕ = length board.nets in
-    let each : (n : ℕ) → n < nets → 2 * (weight_of_net board cert n * net_spread board cert n) ≤ unit * (weight_of_net board cert n * net_sum routing n) =
+    let each : (n : ℕ) → n < nets → 2 * (weight_of_net board cert n * spreads n) ≤ unit * (weight_of_net board cert n * net_sum routing n) =
     λ n there.
     let even : All IsEvenRatio (ratios_of (uses_of routing n)) =
     All-get_or (λ uses. All IsEvenRatio (ratios_of uses)) routing n [] (omega (arith, there, legal.is_for.nets)) legal.even in
-    times-weight (weight_of_net board cert n) (net_spread board cert n) (net_length cert routing n) unit (net_sum routing n)
-    (net_spread-le_length board cert routing valid legal n there)
+    times-weight (weight_of_net board cert n) (spreads n) (net_length cert routing n) unit (net_sum routing n)
+    (weight-short board cert routing spreads short n there)
     (rw (sum-map (λ (u : WireUse). u.ratio) (uses_of routing n)) (unit-times_ratios cert unit (length_of-le_unit cert unit units) (uses_of routing n) even)) in
-    let all : sum_below nets (λ n. 2 * (weight_of_net board cert n * net_spread board cert n)) ≤ sum_below nets (λ n. unit * (weight_of_net board cert n * net_sum routing n)) =
-    sum_below-le nets (λ n. 2 * (weight_of_net board cert n * net_spread board cert n)) (λ n. unit * (weight_of_net board cert n * net_sum routing n)) each in
-    let left = sum_below-times nets 2 (λ n. weight_of_net board cert n * net_spread board cert n) in
+    let all : sum_below nets (λ n. 2 * (weight_of_net board cert n * spreads n)) ≤ sum_below nets (λ n. unit * (weight_of_net board cert n * net_sum routing n)) =
+    sum_below-le nets (λ n. 2 * (weight_of_net board cert n * spreads n)) (λ n. unit * (weight_of_net board cert n * net_sum routing n)) each in
+    let left = sum_below-times nets 2 (λ n. weight_of_net board cert n * spreads n) in
     let right = sum_below-times nets unit (λ n. weight_of_net board cert n * net_sum routing n) in
     let exchanged : weighted_sums routing board.groups cert.weights ≡ sum_below nets (λ n. weight_of_net board cert n * net_sum routing n) =
     weighted_by-nets (net_sum routing) nets board.groups cert.weights is.groups in

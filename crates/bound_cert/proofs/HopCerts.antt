@@ -1,5 +1,5 @@
 -- The certificate by hops of the deepest group, and its bound.
-use Rattle.std.proofs.Common.{◌≡◌, ℕ, ◌*◌, ◌<◌, ◌≤◌, ◌⊎◌, List, [], length, get_or, map, refl, sym, ap, ◌∙◌, subst, inl, inr, one-mul, arith}
+use Rattle.std.proofs.Common.{false, ◌≡◌, ℕ, ◌*◌, ◌<◌, ◌≤◌, ◌⊎◌, List, [], length, get_or, map, refl, sym, ap, ◌∙◌, subst, inl, inr, one-mul, arith}
 use Rattle.std.specs.Prelude.{All, replicate, sum, slice_index}
 use Rattle.std.proofs.lemmas.Bool.{cases_eq, cases_lt}
 use Rattle.std.proofs.lemmas.List.{get_or-replicate, length-replicate, nil_from_length, get_or_default}
@@ -124,9 +124,9 @@ pub record IsHopMade (board : Board) (cert : Cert) : Type 0 where
   pub valid : IsValid board cert
   pub floor : IsHopFloor board (bound_of board cert)
 
-pub IsHopMade-from_parts : (board : Board) (depths weights lengths choices : List ℕ) (potentials : List (List ℕ)) → IsBoard board → AreHopWeights board depths weights → lengths ≡ replicate (length board.wires) 1 → AreRootPotentials board (λ _. 1) potentials → ChooseSources board choices → AreDepths board depths → IsHopMade board (record { kind = Hop 1; weights = weights; lengths = lengths; potentials = potentials; choices = choices })
+pub IsHopMade-from_parts : (board : Board) (depths weights lengths choices : List ℕ) (potentials : List (List ℕ)) → IsBoard board → AreHopWeights board depths weights → lengths ≡ replicate (length board.wires) 1 → AreRootPotentials board (λ _. 1) potentials → ChooseSources board choices → AreDepths board depths → IsHopMade board (record { kind = Hop 1; grows = false; weights = weights; lengths = lengths; potentials = potentials; choices = choices })
 IsHopMade-from_parts board depths weights lengths choices potentials is weighted long hops chosen are_depths =
-    let cert : Cert = record { kind = Hop 1; weights = weights; lengths = lengths; potentials = potentials; choices = choices } in
+    let cert : Cert = record { kind = Hop 1; grows = false; weights = weights; lengths = lengths; potentials = potentials; choices = choices } in
     let even : (e : ℕ) → e < length board.wires → length_of cert e ≡ 1 = λ e there. ap (λ (ls : List ℕ). get_or ls e 0) long ∙ get_or-replicate (length board.wires) e 1 0 there in
     let has : HasRootPotentials board cert = record {
       potentials = record {
@@ -141,6 +141,7 @@ IsHopMade-from_parts board depths weights lengths choices potentials is weighted
         depths = depths;
         are_depths = are_depths;
         kind = refl;
+        chosen = refl;
         weights = weights_each board depths weights weighted;
         lengths = even;
         potentials = has;

@@ -1,10 +1,14 @@
 pub mod Levels
 pub mod Spreads
 pub mod LeastEven
+pub mod Nearer
+pub mod GrowthLaws
+pub mod OneGrowth
 pub mod NetSpreads
 pub mod HopBound
 pub mod ShareBound
 pub mod DualBound
+pub mod OneBound
 pub mod CertWriting
 pub mod CertSize
 pub mod CertReadsBack
@@ -33,6 +37,3 @@ pub mod WeightedCerts
 pub mod Accepted
 pub mod RoleLaws
 pub mod FloorLaws
-pub mod Nearer
-pub mod GrowthLaws
-pub mod OneGrowth

@@ -1,5 +1,5 @@
--- Each net's wires in a legal routing are together at least as long as the net's potential is spread.
-use Rattle.std.proofs.Common.{◌≡◌, ℕ, zero, suc, ◌<◌, ◌≤◌, List, [], ◌∷◌, length, sym, subst, ⊎_elim, arith}
+-- Each net's wires in a legal routing are together at least as long as the net is spread, by its choice or by its growth.
+use Rattle.std.proofs.Common.{◌≡◌, ℕ, zero, suc, Bool, true, false, ◌*◌, ◌<◌, ◌≤◌, List, [], ◌∷◌, length, refl, sym, subst, ⊎_elim, arith, mul-le-mul_left}
 use Rattle.std.specs.Prelude.{Contains, sum_by}
 use Rattle.std.proofs.lemmas.Bool.{cases_lt}
 use Rattle.std.proofs.lemmas.List.{get_or_past}
@@ -9,11 +9,13 @@ use Rattle.tdm_problem.specs.Board.{Board}
 use Rattle.tdm_problem.specs.Routing.{Routing, uses_of, wires_of}
 use Rattle.tdm_problem.specs.Walk.{Joins}
 use Rattle.tdm_problem.specs.Legal.{IsLegal, terminals_of}
+use Rattle.tdm_problem.proofs.Roots.{root_of-square}
 use Rattle.bound_cert.specs.Certificate.{Cert, length_of, potential_of, choice_of}
 use Rattle.bound_cert.specs.Valid.{IsValid}
-use Rattle.bound_cert.specs.Bound.{chosen_spread, net_spread}
+use Rattle.bound_cert.specs.Bound.{chosen_spread, net_spread, IsSpreadBy, IsBound, weight_of_net, root_of_net}
 use Rattle.bound_cert.specs.Laws.{IsGentle}
 use Rattle.bound_cert.proofs.Spreads.{spread-le_lengths}
+use Rattle.bound_cert.proofs.GrowthLaws.{growth-le_lengths}
 
 -- each potential of a valid certificate is gentle, also one that is not there, which is 0 everywhere
 IsGentle-valid : (board : Board) (cert : Cert) → IsValid board cert → (p : ℕ) → IsGentle board (potential_of cert p) (length_of cert)
@@ -52,3 +54,48 @@ net_spread-le_length board cert routing valid legal n there =
       chosen_spread-le_lengths board cert wires (terminals_of board n) valid (legal.joined n there) (choice_of cert n),
       sum_by-wires (length_of cert) (uses_of routing n),
     )
+
+-- so they are as it grows
+spread_by-le_length : (grows : Bool) (board : Board) (cert : Cert) (routing : Routing) → IsValid board cert → IsLegal board routing →
+    (n spread : ℕ) → n < length board.nets → IsSpreadBy grows board cert n spread → spread ≤ net_length cert routing n
+spread_by-le_length false board cert routing valid legal n spread there is =
+    omega (arith, is, net_spread-le_length board cert routing valid legal n there)
+spread_by-le_length true board cert routing valid legal n spread there is =
+    let wires : List ℕ = wires_of (uses_of routing n) in
+    let joins : Joins board (Contains wires) is.rising = λ a b in_a in_b. legal.joined n there a b ((is.are.same a).0 in_a) ((is.are.same b).0 in_b) in
+    omega (
+      arith,
+      growth-le_lengths board (length_of cert) wires is.rising spread is.grows joins,
+      sum_by-wires (length_of cert) (uses_of routing n),
+    )
+
+-- each net that has weight is spread no farther than its wires are long
+abbrev pub AreShort : Board → Cert → Routing → (spreads : ℕ → ℕ) → Type 0
+AreShort board cert routing spreads = (n : ℕ) → n < length board.nets → 0 < weight_of_net board cert n
+    → spreads n ≤ net_length cert routing n
+
+pub short-chosen : (board : Board) (cert : Cert) (routing : Routing) → IsValid board cert → IsLegal board routing → AreShort board cert routing (net_spread board cert)
+short-chosen board cert routing valid legal n there weighs = net_spread-le_length board cert routing valid legal n there
+
+pub short-bound : (board : Board) (cert : Cert) (bound : ℕ) (routing : Routing) → IsValid board cert → IsLegal board routing → (is : IsBound board cert bound) → AreShort board cert routing is.spreads
+short-bound board cert bound routing valid legal is n there weighs =
+    spread_by-le_length cert.grows board cert routing valid legal n (is.spreads n) there (is.are n there weighs)
+
+-- a factor that is 0 where there is no weight
+times-short : (weight factor spread length : ℕ) → (weight ≡ 0 → factor ≡ 0) → (0 < weight → spread ≤ length) → factor * spread ≤ factor * length
+times-short zero factor spread length none short = let no : factor ≡ 0 = none refl in rw no (omega arith)
+times-short (suc w) factor spread length none short = mul-le-mul_left factor (short (omega arith))
+
+pub root_of-none : (weight root : ℕ) → root * root ≤ weight → weight ≡ 0 → root ≡ 0
+root_of-none weight zero square none = refl
+root_of-none weight (suc r) square none = absurd (omega (arith, square, none))
+
+module _ (board : Board) (cert : Cert) (routing : Routing) (spreads : ℕ → ℕ) (short : AreShort board cert routing spreads) (n : ℕ) (there : n < length board.nets) where
+  -- by weights and by their roots
+  pub weight-short : weight_of_net board cert n * spreads n ≤ weight_of_net board cert n * net_length cert routing n
+  weight-short = times-short (weight_of_net board cert n) (weight_of_net board cert n) (spreads n) (net_length cert routing n) (λ none. none) (short n there)
+
+  pub root-short : root_of_net board cert n * spreads n ≤ root_of_net board cert n * net_length cert routing n
+  root-short =
+      times-short (weight_of_net board cert n) (root_of_net board cert n) (spreads n) (net_length cert routing n)
+      (root_of-none (weight_of_net board cert n) (root_of_net board cert n) (root_of-square (weight_of_net board cert n))) (short n there)

@@ -166,6 +166,7 @@ module _ (kept : Firsts) (sizes : Sizes) (potentials : ℕ) (cert : Cert) (is : 
     largest = is.largest;
     few = is.few;
     some = is.some;
+    grown = is.grown;
     weights = rw grown (All-push (λ n. n ≤ most_weight) cert.weights w is.weights le);
     lengths = is.lengths;
     potentials_are = is.potentials_are;
@@ -182,6 +183,7 @@ module _ (kept : Firsts) (sizes : Sizes) (potentials : ℕ) (cert : Cert) (is : 
         largest = is.largest;
         few = is.few;
         some = is.some;
+    grown = is.grown;
         weights = is.weights;
         lengths = subst (λ (k : CertKind). HasLengths k lengths) (sym share) now;
         potentials_are = is.potentials_are;
@@ -198,6 +200,7 @@ module _ (kept : Firsts) (sizes : Sizes) (potentials : ℕ) (cert : Cert) (is : 
         largest = is.largest;
         few = is.few;
         some = is.some;
+    grown = is.grown;
         weights = is.weights;
         lengths = is.lengths;
         potentials_are = rw grown (All-push IsPotential cert.potentials row is.potentials_are one);
@@ -211,6 +214,7 @@ module _ (kept : Firsts) (sizes : Sizes) (potentials : ℕ) (cert : Cert) (is : 
     largest = is.largest;
     few = is.few;
     some = is.some;
+    grown = is.grown;
     weights = is.weights;
     lengths = is.lengths;
     potentials_are = is.potentials_are;

@@ -1,5 +1,5 @@
 -- The bound by shares: on each wire the ratios fit, so that they are not all small.
-use Rattle.std.proofs.Common.{◌≡◌, ℕ, zero, suc, ◌+◌, ◌-◌, ◌*◌, ◌<◌, ◌≤◌, List, [], ◌∷◌, length, map, refl, sym, ap, ◌∙◌, subst, arith, mul-le-mul_left}
+use Rattle.std.proofs.Common.{◌≡◌, ℕ, zero, suc, ◌+◌, ◌-◌, ◌*◌, ◌<◌, ◌≤◌, List, [], ◌∷◌, length, map, refl, sym, ap, ◌∙◌, subst, arith}
 use Rattle.std.specs.Prelude.{All, slice_index_or, sum, sum_by}
 use Rattle.std.proofs.lemmas.List.Elements.{All-head, All-tail, All-weaker}
 use Rattle.std.proofs.lemmas.List.Sums.{sum_by-cons}
@@ -18,9 +18,8 @@ use Rattle.tdm_problem.proofs.SumsBelow.{sum_below-add, sum_below-agree, sum_bel
 use Rattle.tdm_problem.proofs.Tangents.{tangent}
 use Rattle.tdm_problem.proofs.Users.{ratios_on-users, uses-by_wires}
 use Rattle.bound_cert.specs.Certificate.{Cert, length_of}
-use Rattle.bound_cert.specs.Valid.{IsValid}
-use Rattle.bound_cert.specs.Bound.{net_spread, weight_of_net, root_of_net, root_spreads}
-use Rattle.bound_cert.proofs.NetSpreads.{net_length, net_spread-le_length}
+use Rattle.bound_cert.specs.Bound.{weight_of_net, root_of_net, root_sum}
+use Rattle.bound_cert.proofs.NetSpreads.{net_length, AreShort, root-short}
 
 -- what holds of each image under f holds of f at each element
 All-from_map : {A B : Type 0} (P : B → Type 0) (f : A → B) (xs : List A) → All P (map f xs) → All (λ x. P (f x)) xs
@@ -53,7 +52,7 @@ sum_by-times_right f k [] = omega arith
 sum_by-times_right f k (x ∷ xs) =
     omega (arith, sum_by-cons (λ y. f y * k) x xs, ap (λ (s : ℕ). k * s) (sum_by-cons f x xs), sum_by-times_right f k xs)
 
-module _ (board : Board) (cert : Cert) (routing : Routing) (is : IsBoard board) (valid : IsValid board cert) (legal : IsLegal board routing) where
+module _ (board : Board) (cert : Cert) (routing : Routing) (spreads : ℕ → ℕ) (is : IsBoard board) (short : AreShort board cert routing spreads) (legal : IsLegal board routing) where
   -- what the nets on wire e add to the length of all nets, by the roots of their weights
   roots_on : ℕ → ℕ
   roots_on e = sum_by (λ (x : User). length_of cert e * root_of_net board cert x.net) (users_on routing e)
@@ -98,11 +97,11 @@ module _ (board : Board) (cert : Cert) (routing : Routing) (is : IsBoard board) 
       ∙ uses-by_wires (λ n e ratio. length_of cert e * root_of_net board cert n) board routing legal.is_for
 
   -- the spreads of all nets by the roots of their weights are at most the lengths
-  root_spreads-le_lengths : root_spreads board cert ≤ sum_below (length board.nets) (λ n. root_of_net board cert n * net_length cert routing n)
-  root_spreads-le_lengths =
-      sum_below-le (length board.nets) (λ n. root_of_net board cert n * net_spread board cert n) (λ n. root_of_net board cert n * net_length cert routing n)
-      (λ n there. mul-le-mul_left (root_of_net board cert n) (net_spread-le_length board cert routing valid legal n there))
+  root_sum-le_lengths : root_sum board cert spreads ≤ sum_below (length board.nets) (λ n. root_of_net board cert n * net_length cert routing n)
+  root_sum-le_lengths =
+      sum_below-le (length board.nets) (λ n. root_of_net board cert n * spreads n) (λ n. root_of_net board cert n * net_length cert routing n)
+      (root-short board cert routing spreads short)
 
   -- twice these spreads, less the squares of the lengths, are at most the sum of the weights times the value
-  pub share-demand_le : 2 * root_spreads board cert - sum_by (λ l. l * l) cert.lengths ≤ sum cert.weights * value_of board routing
-  share-demand_le = omega (arith, root_spreads-le_lengths, roots-by_wires, roots-le_value)
+  pub share-demand_le : 2 * root_sum board cert spreads - sum_by (λ l. l * l) cert.lengths ≤ sum cert.weights * value_of board routing
+  share-demand_le = omega (arith, root_sum-le_lengths, roots-by_wires, roots-le_value)

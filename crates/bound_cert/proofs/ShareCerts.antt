@@ -1,5 +1,5 @@
 -- The certificate by shares with one weight for all groups, and its bound.
-use Rattle.std.proofs.Common.{◌≡◌, ℕ, zero, suc, ◌-◌, ◌*◌, ◌^◌, ◌<◌, ◌≤◌, List, length, get_or, refl, sym, ap, ◌∙◌, subst, arith}
+use Rattle.std.proofs.Common.{false, ◌≡◌, ℕ, zero, suc, ◌-◌, ◌*◌, ◌^◌, ◌<◌, ◌≤◌, List, length, get_or, refl, sym, ap, ◌∙◌, subst, arith}
 use Rattle.std.specs.Prelude.{All, replicate, sum, sum_by, slice_index}
 use Rattle.std.proofs.lemmas.List.{get_or-replicate, length-replicate}
 use Rattle.std.proofs.lemmas.List.Sums.{sum_by-cons}
@@ -116,9 +116,9 @@ module _ (board : Board) (unit : ℕ) (depths weights lengths choices : List ℕ
   pub share_choices_there : All (λ c. c ≤ length potentials) choices
   share_choices_there = choices_there board (λ _. unit) potentials (are_scaled (λ _. unit) (λ e there. refl)) choices parts.chosen
 
-  pub IsShareMade-from_parts : IsShareMade board (record { kind = Share; weights = weights; lengths = lengths; potentials = potentials; choices = choices })
+  pub IsShareMade-from_parts : IsShareMade board (record { kind = Share; grows = false; weights = weights; lengths = lengths; potentials = potentials; choices = choices })
   IsShareMade-from_parts =
-      let cert : Cert = record { kind = Share; weights = weights; lengths = lengths; potentials = potentials; choices = choices } in
+      let cert : Cert = record { kind = Share; grows = false; weights = weights; lengths = lengths; potentials = potentials; choices = choices } in
       let long : lengths ≡ replicate (length board.wires) (uniform_length board depths) = parts.lengths_are ∙ ap (replicate (length board.wires)) parts.unit_is in
       let at_unit : (e : ℕ) → e < length board.wires → length_of cert e ≡ unit = λ e there. ap (λ (ls : List ℕ). get_or ls e 0) parts.lengths_are ∙ get_or-replicate (length board.wires) e unit 0 there in
       let has : HasRootPotentials board cert = record { potentials = are_scaled (length_of cert) at_unit; choices = parts.chosen } in
@@ -127,6 +127,7 @@ module _ (board : Board) (unit : ℕ) (depths weights lengths choices : List ℕ
           depths = depths;
           are_depths = parts.are_depths;
           kind = refl;
+          chosen = refl;
           weights = λ g there. ap (λ (ws : List ℕ). get_or ws g 0) parts.weights_are ∙ get_or-replicate (length board.groups) g uniform_weight 0 there;
           lengths = λ e there. at_unit e there ∙ parts.unit_is;
           potentials = has;

@@ -1,5 +1,5 @@
 -- The certificate by shares at any weights and lengths, and its bound.
-use Rattle.std.proofs.Common.{◌≡◌, ℕ, ◌-◌, ◌*◌, ◌<◌, ◌≤◌, List, [], ◌∷◌, length, get_or, map, refl, sym, ap, ◌∙◌, subst, arith}
+use Rattle.std.proofs.Common.{false, ◌≡◌, ℕ, ◌-◌, ◌*◌, ◌<◌, ◌≤◌, List, [], ◌∷◌, length, get_or, map, refl, sym, ap, ◌∙◌, subst, arith}
 use Rattle.std.specs.Prelude.{sum, sum_by}
 use Rattle.std.proofs.lemmas.List.Sums.{sum_by-cons}
 use Rattle.tdm_problem.specs.Board.{Board, IsBoard}
@@ -102,12 +102,12 @@ pub record IsWeightedMade (board : Board) (weights lengths : List ℕ) (cert : C
   pub only_bound : (wire_length : ℕ → ℕ) → ListsLengths board lengths wire_length → (bound : ℕ) → IsShareBound board weights wire_length bound → bound ≡ bound_of board cert
   pub few : sum_by length cert.potentials ≤ most_potential_values
 
-pub IsWeightedMade-from_parts : (board : Board) (weights lengths choices : List ℕ) (potentials : List (List ℕ)) → IsBoard board → length weights ≡ length board.groups → length lengths ≡ length board.wires → AreRootPotentials board (λ e. get_or lengths e 0) potentials → ChooseSources board choices → length potentials ≤ most_fpgas → IsWeightedMade board weights lengths (record { kind = Share; weights = weights; lengths = lengths; potentials = potentials; choices = choices })
+pub IsWeightedMade-from_parts : (board : Board) (weights lengths choices : List ℕ) (potentials : List (List ℕ)) → IsBoard board → length weights ≡ length board.groups → length lengths ≡ length board.wires → AreRootPotentials board (λ e. get_or lengths e 0) potentials → ChooseSources board choices → length potentials ≤ most_fpgas → IsWeightedMade board weights lengths (record { kind = Share; grows = false; weights = weights; lengths = lengths; potentials = potentials; choices = choices })
 IsWeightedMade-from_parts board weights lengths choices potentials is weighed long are choose few =
-    let cert : Cert = record { kind = Share; weights = weights; lengths = lengths; potentials = potentials; choices = choices } in
+    let cert : Cert = record { kind = Share; grows = false; weights = weights; lengths = lengths; potentials = potentials; choices = choices } in
     let has : HasRootPotentials board cert = record { potentials = are; choices = choose } in
     record {
-      made = record { kind = refl; weights_are = refl; lengths_are = refl; potentials = has };
+      made = record { kind = refl; chosen = refl; weights_are = refl; lengths_are = refl; potentials = has };
       for_problem = record {
         weights = weighed;
         lengths = long;

@@ -1,5 +1,5 @@
 -- The number that a certificate bounds the value of every legal solution by.
-use Rattle.std.specs.Prelude.{ℕ, zero, suc, ◌-◌, ◌*◌, min, List, [], ◌∷◌, length, map, sum, sum_by}
+use Rattle.std.specs.Prelude.{◌≡◌, ℕ, zero, suc, Bool, true, false, ◌<◌, ◌-◌, ◌*◌, min, List, [], ◌∷◌, length, map, sum, sum_by}
 use Rattle.std.specs.Int.{div_ceil}
 use Rattle.tdm_problem.specs.Board.{Board}
 use Rattle.tdm_problem.specs.Legal.{terminals_of}
@@ -9,7 +9,8 @@ use Rattle.tdm_problem.specs.Weights.{net_weight}
 use Rattle.tdm_problem.specs.Roots.{root_of}
 use Rattle.bound_cert.specs.declared.certificate.CertKind.{CertKind}
 use Rattle.bound_cert.specs.declared.certificate.CertKind.TheVariants.{Share, Hop}
-use Rattle.bound_cert.specs.Certificate.{Cert, potential_of, value_at, choice_of}
+use Rattle.bound_cert.specs.Certificate.{Cert, length_of, potential_of, value_at, choice_of}
+use Rattle.bound_cert.specs.Growth.{IsNetGrowth}
 
 -- the smallest of the numbers, 0 of none
 abbrev pub smallest : List ℕ → ℕ
@@ -38,22 +39,33 @@ weight_of_net board cert n = net_weight board.groups cert.weights n
 abbrev pub root_of_net : Board → Cert → (n : ℕ) → ℕ
 root_of_net board cert n = root_of (weight_of_net board cert n)
 
--- the spreads of all nets, by the roots of their weights
+-- such spreads of all nets, by the roots of their weights
+abbrev pub root_sum : Board → Cert → (spreads : ℕ → ℕ) → ℕ
+root_sum board cert spreads = sum_below (length board.nets) (λ n. root_of_net board cert n * spreads n)
+
+-- such spreads of all nets, by their weights
+abbrev pub weight_sum : Board → Cert → (spreads : ℕ → ℕ) → ℕ
+weight_sum board cert spreads = sum_below (length board.nets) (λ n. weight_of_net board cert n * spreads n)
+
+-- what a bound times the divisor must reach where nets are spread so, 0 where that is negative, by a certificate of this
+-- kind
+abbrev pub demand_by : CertKind → Board → Cert → (spreads : ℕ → ℕ) → ℕ
+demand_by Share board cert spreads = 2 * root_sum board cert spreads - sum_by (λ l. l * l) cert.lengths
+demand_by (Hop unit) board cert spreads = 2 * weight_sum board cert spreads
+
+-- the spreads of all nets by their choices, by the roots of their weights
 abbrev pub root_spreads : Board → Cert → ℕ
-root_spreads board cert =
-    sum_below (length board.nets) (λ n. root_of_net board cert n * net_spread board cert n)
+root_spreads board cert = root_sum board cert (net_spread board cert)
 
--- the spreads of all nets, by their weights
+-- the spreads of all nets by their choices, by their weights
 abbrev pub weight_spreads : Board → Cert → ℕ
-weight_spreads board cert =
-    sum_below (length board.nets) (λ n. weight_of_net board cert n * net_spread board cert n)
+weight_spreads board cert = weight_sum board cert (net_spread board cert)
 
--- what the bound times the divisor must reach, 0 where that is negative, by a certificate of this kind
+-- what the bound by choices times the divisor must reach, by a certificate of this kind
 abbrev pub demand_of_kind : CertKind → Board → Cert → ℕ
-demand_of_kind Share board cert = 2 * root_spreads board cert - sum_by (λ l. l * l) cert.lengths
-demand_of_kind (Hop unit) board cert = 2 * weight_spreads board cert
+demand_of_kind kind board cert = demand_by kind board cert (net_spread board cert)
 
--- what the bound times the divisor must reach
+-- what the bound by choices times the divisor must reach
 abbrev pub demand_of : Board → Cert → ℕ
 demand_of board cert = demand_of_kind cert.kind board cert
 
@@ -71,6 +83,18 @@ abbrev pub least_even : (demand divisor : ℕ) → ℕ
 least_even demand zero = 0
 least_even demand (suc d) = 2 * div_ceil demand (2 * suc d)
 
--- the bound of the certificate
+-- the bound of the certificate by the choices of nets
 abbrev pub bound_of : Board → Cert → ℕ
 bound_of board cert = least_even (demand_of board cert) (divisor_of cert)
+
+-- net n is spread so far: by its growth where nets grow, and else by its choice
+abbrev pub IsSpreadBy : (grows : Bool) → Board → Cert → (n spread : ℕ) → Type 0
+IsSpreadBy true board cert n spread = IsNetGrowth board (length_of cert) n spread
+IsSpreadBy false board cert n spread = spread ≡ net_spread board cert n
+
+-- the number is the bound of the certificate, by the spreads of the nets that have weight
+pub record IsBound (board : Board) (cert : Cert) (bound : ℕ) : Type 0 where
+  pub spreads : ℕ → ℕ
+  pub are : (n : ℕ) → n < length board.nets → 0 < weight_of_net board cert n
+      → IsSpreadBy cert.grows board cert n (spreads n)
+  pub bound_is : bound ≡ least_even (demand_by cert.kind board cert spreads) (divisor_of cert)

@@ -1,5 +1,5 @@
 -- What a text says: a certificate for the board, or the first refusal.
-use Rattle.std.specs.Prelude.{ℕ, zero, suc, ◌^◌, ◌==◌, ◌&&◌, ◌||◌, not, nat_lt, if◌then◌else◌, List, [], ◌∷◌, length, replicate, Option, None, Some, Result, Ok, Err}
+use Rattle.std.specs.Prelude.{ℕ, zero, suc, ◌^◌, ◌==◌, ◌&&◌, ◌||◌, nat_lt, if◌then◌else◌, Bool, true, false, List, [], ◌∷◌, length, replicate, Option, None, Some, Result, Ok, Err}
 use Rattle.tdm_problem.specs.Board.{Board}
 use Rattle.tdm_lines.specs.declared.line.TokenFault.{TokenFault}
 use Rattle.tdm_lines.specs.declared.line.TokenFault.TheVariants as token
@@ -43,19 +43,23 @@ kind_said line kind unit =
     then (if unit == 0 || nat_lt most_unit unit then refused BadUnit line else Ok (Hop unit))
     else refused BadKind line)
 
--- how many potentials there are: none where they would have no value
-abbrev pub count_said : (fpgas line count : ℕ) → Result ℕ CertRefusal
-count_said fpgas line count =
-    if nat_lt most_potentials count || (fpgas == 0 && nat_lt 0 count) then refused CountLimit line else Ok count
+-- whether the spread of a net is its growth: in version 4, and not in version 1
+abbrev pub grows_said : (line version : ℕ) → Result Bool CertRefusal
+grows_said line version = if version == 1 then Ok false else (if version == 4 then Ok true else refused BadVersion line)
 
--- a header has four numbers: version 1, a kind, its unit, and how many potentials there are
+-- how many potentials there are: none where nets grow, and where they would have no value
+abbrev pub count_said : (grows : Bool) → (fpgas line count : ℕ) → Result ℕ CertRefusal
+count_said grows fpgas line count =
+    if nat_lt most_potentials count || ((grows || fpgas == 0) && nat_lt 0 count) then refused CountLimit line
+    else Ok count
+
+-- a header has four numbers: a version, a kind, its unit, and how many potentials there are
 abbrev pub header_said : ℕ → ℕ → List ℕ → Result Header CertRefusal
-header_said fpgas line (version ∷ kind ∷ unit ∷ count ∷ []) =
-    if not (version == 1) then refused BadVersion line
-    else (do
-      kind ← kind_said line kind unit
-      potentials ← count_said fpgas line count
-      Ok (record { kind = kind; potentials = potentials }))
+header_said fpgas line (version ∷ kind ∷ unit ∷ count ∷ []) = do
+  grows ← grows_said line version
+  kind ← kind_said line kind unit
+  potentials ← count_said grows fpgas line count
+  Ok (record { kind = kind; grows = grows; potentials = potentials })
 header_said fpgas line numbers = refused WrongCount line
 
 -- a line of one number, which is at most the limit
@@ -102,6 +106,11 @@ module _ (after : ℕ) where
   lengths_from Share wires lines = section_from (number_said LengthLimit most_length) wires lines
   lengths_from (Hop unit) wires lines = Ok (replicate wires unit, lines)
 
+  -- the choice of each net: a line for each, or none and no line where nets grow
+  abbrev pub choices_from : Bool → (potentials nets : ℕ) → List Line → Result (List ℕ × List Line) CertRefusal
+  choices_from true potentials nets lines = Ok (replicate nets 0, lines)
+  choices_from false potentials nets lines = section_from (number_said UnknownPotential potentials) nets lines
+
   -- the header, then the weights, lengths, potentials and choices, and no line behind them
   abbrev pub cert_from : Board → List Line → Result Cert CertRefusal
   cert_from board lines = do
@@ -109,9 +118,10 @@ module _ (after : ℕ) where
     weights ← section_from (number_said WeightLimit most_weight) (length board.groups) header.1
     lengths ← lengths_from header.0.kind (length board.wires) weights.1
     potentials ← section_from (potential_said board.fpgas) header.0.potentials lengths.1
-    choices ← section_from (number_said UnknownPotential header.0.potentials) (length board.nets) potentials.1
+    choices ← choices_from header.0.grows header.0.potentials (length board.nets) potentials.1
     unless_more (record {
       kind = header.0.kind;
+      grows = header.0.grows;
       weights = weights.0;
       lengths = lengths.0;
       potentials = potentials.0;

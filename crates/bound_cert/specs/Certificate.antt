@@ -1,14 +1,15 @@
 -- What a certificate says of a board.
-use Rattle.std.specs.Prelude.{◌≡◌, ℕ, ◌<◌, ◌≤◌, List, [], length, slice_index_or, All}
+use Rattle.std.specs.Prelude.{◌≡◌, ℕ, Bool, true, ◌<◌, ◌≤◌, List, [], length, slice_index_or, All}
 use Rattle.tdm_problem.specs.Board.{Board}
 use Rattle.bound_cert.specs.declared.certificate.CertKind.{CertKind}
 use Rattle.bound_cert.specs.declared.certificate.CertKind.TheVariants.{Share, Hop}
 use Rattle.bound_cert.specs.Limits.{most_weight, most_length, most_unit, most_potentials, most_potential_value}
 
--- a kind, the weight of each group, the length of each wire, the potentials, and for each net which of them it
--- chooses: 0 for none, else the potential's number plus 1
+-- a kind, whether the spread of a net is its growth, the weight of each group, the length of each wire, the potentials, and
+-- for each net which of them it chooses: 0 for none, else the potential's number plus 1
 pub record Cert : Type 0 where
   pub kind : CertKind
+  pub grows : Bool
   pub weights : List ℕ
   pub lengths : List ℕ
   pub potentials : List (List ℕ)
@@ -34,6 +35,7 @@ pub record IsCert (cert : Cert) : Type 0 where
   pub weights : All (λ w. w ≤ most_weight) cert.weights
   pub lengths : HasLengths cert.kind cert.lengths
   pub potential_limit : length cert.potentials ≤ most_potentials
+  pub grown : cert.grows ≡ true → length cert.potentials ≡ 0
   pub potentials : All IsPotential cert.potentials
   pub choices : All (λ c. c ≤ length cert.potentials) cert.choices
 

@@ -1,7 +1,9 @@
 -- How far FPGAs grow towards one another over wires with lengths: what joins them is at least as long.
-use Rattle.std.specs.Prelude.{◌≡◌, ℕ, ◌+◌, ◌-◌, ◌<◌, ◌≤◌, ◌⊎◌, List, [], ◌∷◌, Contains, sum_by}
+use Rattle.std.specs.Prelude.{◌≡◌, ℕ, ◌+◌, ◌-◌, ◌<◌, ◌≤◌, ◌⊎◌, ◌↔◌, List, [], ◌∷◌, Contains, sum_by}
+use Rattle.std.specs.List.Sorted.{IsStrictlyIncreasing}
 use Rattle.tdm_problem.specs.Board.{Board}
 use Rattle.tdm_problem.specs.Walk.{Joins, IsConnectable}
+use Rattle.tdm_problem.specs.Legal.{terminals_of}
 use Rattle.shortest_forest.specs.Arcs.{Arcs, IsArcWalk, both_ways}
 
 -- one of the live FPGAs is so far from FPGA x over the rests of the arcs, and none is nearer
@@ -38,6 +40,17 @@ IsGrowth board wire_length [] growth = growth ≡ 0
 IsGrowth board wire_length (root ∷ growing) growth =
     GrowOver board root growing (both_ways wire_length) growth
     ⊎ ((growth ≡ 0) × ¬ IsConnectable board (root ∷ growing))
+
+-- the same FPGAs, each once and rising
+pub record AreRising (fpgas rising : List ℕ) : Type 0 where
+  pub rises : IsStrictlyIncreasing rising
+  pub same : (f : ℕ) → Contains rising f ↔ Contains fpgas f
+
+-- so much do the FPGAs of net n grow, which are taken in rising order
+pub record IsNetGrowth (board : Board) (wire_length : ℕ → ℕ) (n growth : ℕ) : Type 0 where
+  pub rising : List ℕ
+  pub are : AreRising (terminals_of board n) rising
+  pub grows : IsGrowth board wire_length rising growth
 
 -- wires that join FPGAs are together at least as long as these grow
 abbrev pub GrowthLaw : Type 0

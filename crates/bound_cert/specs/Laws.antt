@@ -1,5 +1,5 @@
 -- Laws on certificates: what joins FPGAs is as long as a potential is spread, and the bound is below every legal value.
-use Rattle.std.specs.Prelude.{◌≡◌, ℕ, ◌+◌, ◌*◌, ◌<◌, ◌≤◌, List, sum_by, Contains}
+use Rattle.std.specs.Prelude.{◌≡◌, ℕ, false, ◌+◌, ◌*◌, ◌<◌, ◌≤◌, List, sum_by, Contains}
 use Rattle.tdm_problem.specs.Board.{Board, IsBoard}
 use Rattle.tdm_problem.specs.Routing.{Routing}
 use Rattle.tdm_problem.specs.Walk.{Links, Joins}
@@ -7,7 +7,7 @@ use Rattle.tdm_problem.specs.Legal.{IsLegal}
 use Rattle.tdm_problem.specs.Value.{value_of}
 use Rattle.bound_cert.specs.Certificate.{Cert, IsCert, value_at}
 use Rattle.bound_cert.specs.Valid.{IsValid}
-use Rattle.bound_cert.specs.Bound.{spread, least_even, bound_of}
+use Rattle.bound_cert.specs.Bound.{spread, least_even, bound_of, IsBound}
 
 -- along each wire, either way, the potential rises by at most the wire's length
 abbrev pub IsGentle : Board → (potential : List ℕ) → (wire_length : ℕ → ℕ) → Type 0
@@ -32,5 +32,14 @@ LeastEvenLaw = (demand divisor : ℕ) → 0 < divisor → IsLeastEven demand div
 
 -- the bound of a valid certificate is at most the value of every legal routing
 abbrev pub DualBoundLaw : Type 0
-DualBoundLaw = (board : Board) (cert : Cert) (routing : Routing) → IsBoard board → IsCert cert →
-    IsValid board cert → IsLegal board routing → bound_of board cert ≤ value_of board routing
+DualBoundLaw = (board : Board) (cert : Cert) (bound : ℕ) (routing : Routing) → IsBoard board → IsCert cert →
+    IsValid board cert → IsBound board cert bound → IsLegal board routing → bound ≤ value_of board routing
+
+-- a certificate has one bound alone
+abbrev pub OneBoundLaw : Type 0
+OneBoundLaw = (board : Board) (cert : Cert) (bound other : ℕ) → IsBound board cert bound →
+    IsBound board cert other → bound ≡ other
+
+-- where nets do not grow, the bound is that by their choices
+abbrev pub ChosenBoundLaw : Type 0
+ChosenBoundLaw = (board : Board) (cert : Cert) → cert.grows ≡ false → IsBound board cert (bound_of board cert)

@@ -1,6 +1,7 @@
 pub mod Limits
 pub mod Certificate
 pub mod Valid
+pub mod Growth
 pub mod Bound
 pub mod Laws
 pub mod Samples
@@ -16,4 +17,3 @@ pub mod Floors
 pub mod Makers
 pub mod Scaling
 pub mod Weighted
-pub mod Growth

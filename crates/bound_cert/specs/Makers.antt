@@ -1,8 +1,9 @@
--- The certificates that are made from hops.
-use Rattle.std.specs.Prelude.{◌≡◌, ℕ, ◌+◌, ◌<◌, ◌≤◌, ◌⊎◌, List, [], length, slice_index, slice_index_or}
+-- The certificates that are made from hops, and those by growth.
+use Rattle.std.specs.Prelude.{◌≡◌, ℕ, true, false, ◌+◌, ◌<◌, ◌≤◌, ◌⊎◌, List, [], length, replicate, slice_index, slice_index_or, slice_set}
 use Rattle.tdm_problem.specs.Board.{Board}
 use Rattle.tdm_problem.specs.Distance.{IsDistance}
 use Rattle.shortest_forest.specs.Reach.{HasNoWalk}
+use Rattle.bound_cert.specs.declared.certificate.CertKind.{CertKind}
 use Rattle.bound_cert.specs.declared.certificate.CertKind.TheVariants.{Share, Hop}
 use Rattle.bound_cert.specs.Limits.{uniform_weight}
 use Rattle.bound_cert.specs.Certificate.{Cert, weight_of, length_of, value_at}
@@ -70,6 +71,7 @@ pub record IsHopGroupCert (board : Board) (cert : Cert) : Type 0 where
   pub depths : List ℕ
   pub are_depths : AreDepths board depths
   pub kind : cert.kind ≡ Hop 1
+  pub chosen : cert.grows ≡ false
   pub weights : (g : ℕ) → g < length board.groups → IsHopWeight board depths g (weight_of cert g)
   pub lengths : (e : ℕ) → e < length board.wires → length_of cert e ≡ 1
   pub potentials : HasRootPotentials board cert
@@ -79,6 +81,23 @@ pub record IsUniformShareCert (board : Board) (cert : Cert) : Type 0 where
   pub depths : List ℕ
   pub are_depths : AreDepths board depths
   pub kind : cert.kind ≡ Share
+  pub chosen : cert.grows ≡ false
   pub weights : (g : ℕ) → g < length board.groups → weight_of cert g ≡ uniform_weight
   pub lengths : (e : ℕ) → e < length board.wires → length_of cert e ≡ uniform_length board depths
   pub potentials : HasRootPotentials board cert
+
+-- the certificate by growth of this kind, with these weights of groups and lengths of wires
+abbrev pub growing_cert : Board → CertKind → (weights lengths : List ℕ) → Cert
+growing_cert board kind weights lengths = record {
+  kind = kind;
+  grows = true;
+  weights = weights;
+  lengths = lengths;
+  potentials = [];
+  choices = replicate (length board.nets) 0;
+}
+
+-- the one by hops of unit 1, where group g has the weight 1 and all others 0
+abbrev pub group_growing_cert : Board → (g : ℕ) → Cert
+group_growing_cert board g = growing_cert board (Hop 1) (slice_set (replicate (length board.groups) 0) g 1)
+    (replicate (length board.wires) 1)

@@ -1,5 +1,5 @@
 -- Where a certificate text stands: what its lines so far have said, and what the lines that still come make of that.
-use Rattle.std.specs.Prelude.{◌≡◌, ℕ, ◌+◌, ◌<◌, ◌≤◌, List, [], ◌∷◌, ◌++◌, length, take, All, Option, Some, None, Result, Ok, Err}
+use Rattle.std.specs.Prelude.{◌≡◌, ℕ, true, false, ◌+◌, ◌<◌, ◌≤◌, List, [], ◌∷◌, ◌++◌, length, take, All, Option, Some, None, Result, Ok, Err}
 use Rattle.tdm_lines.specs.declared.line.TokenFault.{TokenFault}
 use Rattle.tdm_lines.specs.declared.line.TokenFault.TheVariants as token
 use Rattle.tdm_lines.specs.FirstNumbers.{Firsts, AreFirst}
@@ -14,7 +14,7 @@ use Rattle.bound_cert.specs.declared.state.Role.{Role}
 use Rattle.bound_cert.specs.declared.state.Role.TheVariants as role
 use Rattle.bound_cert.specs.declared.state.Sizes.{Sizes}
 use Rattle.bound_cert.specs.Certificate.{Cert, HasLengths, IsPotential}
-use Rattle.bound_cert.specs.CertReading.{refused, header_said, number_said, potential_said, line_from, section_from, lengths_from, unless_more, ◌>>=◌}
+use Rattle.bound_cert.specs.CertReading.{refused, header_said, number_said, potential_said, line_from, section_from, lengths_from, choices_from, unless_more, ◌>>=◌}
 use Rattle.bound_cert.specs.Limits.{most_weight, most_length, most_potentials, most_potential_value}
 
 -- ---- one line
@@ -44,10 +44,16 @@ module _ (after : ℕ) where
   in_choices sizes potentials cert left lines =
       in_section (number_said UnknownPotential potentials) (λ choices. unless_more (record cert { choices = choices })) left cert.choices lines
 
+  -- behind the potentials
+  abbrev pub past_potentials : Sizes → ℕ → Cert → List Line → Result Cert CertRefusal
+  past_potentials sizes potentials cert lines = do
+    choices ← choices_from after cert.grows potentials sizes.nets lines
+    unless_more (record cert { choices = choices.0 }) choices.1
+
   -- from a potential on
   abbrev pub in_potentials : Sizes → ℕ → Cert → ℕ → List Line → Result Cert CertRefusal
   in_potentials sizes potentials cert left lines =
-      in_section (potential_said sizes.fpgas) (λ rows. in_choices sizes potentials (record cert { potentials = rows }) sizes.nets) left cert.potentials lines
+      in_section (potential_said sizes.fpgas) (λ rows. past_potentials sizes potentials (record cert { potentials = rows })) left cert.potentials lines
 
   -- from a length on
   abbrev pub in_lengths : Sizes → ℕ → Cert → ℕ → List Line → Result Cert CertRefusal
@@ -68,7 +74,7 @@ module _ (after : ℕ) where
   -- behind a header
   abbrev pub past_header : Sizes → Header → List Line → Result Cert CertRefusal
   past_header sizes header lines =
-      in_weights sizes header.potentials (record { kind = header.kind; weights = []; lengths = []; potentials = []; choices = [] }) sizes.groups lines
+      in_weights sizes header.potentials (record { kind = header.kind; grows = header.grows; weights = []; lengths = []; potentials = []; choices = [] }) sizes.groups lines
 
   -- the whole text
   abbrev pub from_header : Sizes → List Line → Result Cert CertRefusal
@@ -92,6 +98,7 @@ said_in (role.Refused refusal) sizes potentials cert left after lines = Err refu
 abbrev pub so_far : CertState → Cert
 so_far state = record {
   kind = state.header.kind;
+  grows = state.header.grows;
   weights = state.weights.items;
   lengths = state.lengths.items;
   potentials = state.potentials.items;
@@ -124,6 +131,7 @@ pub record IsKept (kept : Firsts) (sizes : Sizes) (potentials : ℕ) (cert : Cer
   pub largest : kept.largest ≡ most_potential_value
   pub few : potentials ≤ most_potentials
   pub some : 0 < potentials → 0 < sizes.fpgas
+  pub grown : cert.grows ≡ true → potentials ≡ 0
   pub weights : All (λ w. w ≤ most_weight) cert.weights
   pub lengths : HasLengths cert.kind cert.lengths
   pub potentials_are : All IsPotential cert.potentials
@@ -149,10 +157,11 @@ pub record IsInPotentials (potentials : ℕ) (cert : Cert) (left : ℕ) : Type 0
 
 pub record IsInChoices (potentials : ℕ) (cert : Cert) (left : ℕ) : Type 0 where
   pub some : 0 < left
+  pub chosen : cert.grows ≡ false
   pub all_there : length cert.potentials ≡ potentials
 
 abbrev pub IsInRole : Role → ℕ → Cert → ℕ → Type 0
-IsInRole role.Header potentials cert left = cert ≡ record { kind = cert.kind; weights = []; lengths = []; potentials = []; choices = [] }
+IsInRole role.Header potentials cert left = cert ≡ record { kind = cert.kind; grows = cert.grows; weights = []; lengths = []; potentials = []; choices = [] }
 IsInRole role.Weight potentials cert left = IsInWeights cert left
 IsInRole role.Length potentials cert left = IsInLengths cert left
 IsInRole role.Potential potentials cert left = IsInPotentials potentials cert left

@@ -1,5 +1,5 @@
 -- Certificates of small boards, on which the definitions are computed.
-use Rattle.std.specs.Prelude.{ℕ, List, [], ◌∷◌}
+use Rattle.std.specs.Prelude.{ℕ, false, List, [], ◌∷◌}
 use Rattle.bound_cert.specs.declared.certificate.CertKind.TheVariants.{Share, Hop}
 use Rattle.bound_cert.specs.Certificate.{Cert}
 
@@ -7,6 +7,7 @@ use Rattle.bound_cert.specs.Certificate.{Cert}
 abbrev pub wire_cert : (weight wire_length first second : ℕ) → (choices : List ℕ) → Cert
 wire_cert weight wire_length first second choices = record {
   kind = Share;
+  grows = false;
   weights = weight ∷ [];
   lengths = wire_length ∷ [];
   potentials = (first ∷ second ∷ []) ∷ [];
@@ -17,6 +18,7 @@ wire_cert weight wire_length first second choices = record {
 abbrev pub star_cert : Cert
 star_cert = record {
   kind = Hop 1;
+  grows = false;
   weights = 1 ∷ [];
   lengths = 1 ∷ 1 ∷ 1 ∷ [];
   potentials = (1 ∷ 0 ∷ 2 ∷ 2 ∷ []) ∷ [];

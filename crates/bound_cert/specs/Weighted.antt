@@ -1,5 +1,5 @@
 -- The certificate by shares at any weights and lengths, and what its bound is.
-use Rattle.std.specs.Prelude.{◌≡◌, ℕ, ◌-◌, ◌*◌, ◌<◌, List, length, sum, slice_index_or}
+use Rattle.std.specs.Prelude.{◌≡◌, ℕ, false, ◌-◌, ◌*◌, ◌<◌, List, length, sum, slice_index_or}
 use Rattle.tdm_problem.specs.Board.{Board}
 use Rattle.tdm_problem.specs.Legal.{lanes_of}
 use Rattle.tdm_problem.specs.Roots.{root_of}
@@ -14,6 +14,7 @@ use Rattle.bound_cert.specs.Makers.{HasRootPotentials}
 -- the certificate by shares with these weights and these lengths
 pub record IsWeightedShareCert (board : Board) (weights lengths : List ℕ) (cert : Cert) : Type 0 where
   pub kind : cert.kind ≡ Share
+  pub chosen : cert.grows ≡ false
   pub weights_are : cert.weights ≡ weights
   pub lengths_are : cert.lengths ≡ lengths
   pub potentials : HasRootPotentials board cert

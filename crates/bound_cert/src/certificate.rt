@@ -1,7 +1,7 @@
 //! Certificates.
-ghost use Rattle.std.specs.Prelude.{◌≡◌, ◌<◌, ◌≤◌, length, slice_get, slice_index_or, All, Some};
+ghost use Rattle.std.specs.Prelude.{◌≡◌, true, ◌<◌, ◌≤◌, length, slice_get, slice_index_or, All, Some};
 ghost use Rattle.bound_cert.specs.Certificate.{Cert, IsCert, IsPotential, HasLengths, weight_of, length_of, potential_of, choice_of};
-ghost use Rattle.bound_cert.specs.CertText.{listed_lengths};
+ghost use Rattle.bound_cert.specs.CertText.{listed_lengths, listed_choices};
 ghost use Rattle.bound_cert.specs.Limits.{most_weight, most_length, most_potentials};
 
 use crate::potential::Potential;
@@ -16,11 +16,12 @@ pub enum CertKind {
     Hop { unit: u64 },
 }
 
-/// A lower bound's certificate: a weight for each group, a length for each wire, potentials with a value for each
-/// FPGA, and for each net which potential it chooses.
+/// A lower bound's certificate: a weight for each group, a length for each wire, and what nets are spread by. That is their
+/// growth over the lengths, or potentials with a value for each FPGA, and for each net which potential it chooses.
 #[derive(Drop)]
 pub struct Certificate {
     kind: CertKind,
+    grows: bool,
     weights: Vec<u64>,
     lengths: Vec<u64>,
     potentials: Vec<Potential>,
@@ -34,6 +35,7 @@ impl Model for Certificate {
 
     ghost view = { λ c. record {
       kind = c.kind;
+      grows = c.grows;
       weights = c.weights.items;
       lengths = c.lengths.items;
       potentials = c.potentials.items;
@@ -42,6 +44,7 @@ impl Model for Certificate {
 
     ghost invariant = { λ c. IsCert (record {
       kind = c.kind;
+      grows = c.grows;
       weights = c.weights.items;
       lengths = c.lengths.items;
       potentials = c.potentials.items;
@@ -53,6 +56,7 @@ impl Certificate {
     /// The certificate of these parts.
     pub(crate) fn from_parts(
         kind: CertKind,
+        grows: bool,
         weights: Vec<u64>,
         lengths: Vec<u64>,
         potentials: Vec<Potential>,
@@ -61,10 +65,12 @@ impl Certificate {
         requires weights_within { All (λ w. w ≤ most_weight) weights.items }
         requires lengths_within { HasLengths kind lengths.items }
         requires few_potentials { length potentials.items ≤ most_potentials }
+        requires none_grown { grows ≡ true → length potentials.items ≡ 0 }
         requires potentials_within { All IsPotential potentials.items }
         requires choices_there { All (λ c. c ≤ length potentials.items) choices.items }
         ensures { result ≡ record {
           kind = kind;
+          grows = grows;
           weights = weights.items;
           lengths = lengths.items;
           potentials = potentials.items;
@@ -73,6 +79,7 @@ impl Certificate {
     {
         Certificate {
             kind,
+            grows,
             weights,
             lengths,
             potentials,
@@ -86,6 +93,13 @@ impl Certificate {
         ensures ranges { IsCert self.now }
     {
         self.kind
+    }
+
+    /// Whether the spread of each net is its growth: then there are no potentials, and no net chooses one.
+    pub fn grows(&self) -> bool
+        ensures value { result ≡ self.now.grows }
+    {
+        self.grows
     }
 
     /// The weight of group `g`, counted from 0: at most [`MAX_WEIGHT`](crate::MAX_WEIGHT).
@@ -107,6 +121,15 @@ impl Certificate {
         self.lengths[e as usize]
     }
 
+    /// The lengths, wires in order, each at most [`MAX_LENGTH`](crate::MAX_LENGTH).
+    pub fn lengths(&self) -> &[u64]
+        ensures value { result.now ≡ self.now.lengths }
+        ensures within { All (λ l. l ≤ most_length) result.now }
+        ensures ranges { IsCert self.now }
+    {
+        self.lengths.as_slice()
+    }
+
     /// The weights, groups in order.
     pub(crate) fn weights(&self) -> &[u64]
         ensures { result.now ≡ self.now.weights }
@@ -124,10 +147,13 @@ impl Certificate {
         }
     }
 
-    /// The choices, nets in order.
-    pub(crate) fn choices(&self) -> &[u32]
-        ensures { result.now ≡ self.now.choices }
+    /// The choices that a text lists: nets in order, or none where nets grow.
+    pub(crate) fn listed_choices(&self) -> &[u32]
+        ensures { result.now ≡ listed_choices self.now.grows self.now.choices }
     {
+        if self.grows {
+            return &[];
+        }
         self.choices.as_slice()
     }
 

@@ -1,6 +1,6 @@
 //! The header of a certificate text.
-ghost use Rattle.std.specs.Prelude.{◌≤◌, ◌<◌, Ok, IfOk};
-ghost use Rattle.bound_cert.specs.CertReading.{kind_said, count_said, header_said};
+ghost use Rattle.std.specs.Prelude.{◌≡◌, ◌≤◌, ◌<◌, true, Ok, IfOk};
+ghost use Rattle.bound_cert.specs.CertReading.{grows_said, kind_said, count_said, header_said};
 ghost use Rattle.bound_cert.specs.CertFaults.{Leads};
 ghost use Rattle.bound_cert.specs.Certificate.{HasUnit};
 ghost use Rattle.bound_cert.specs.Limits.{most_potentials};
@@ -9,11 +9,23 @@ use crate::certificate::CertKind;
 use crate::limits::{MAX_POTENTIALS, MAX_UNIT};
 use crate::refusal::{CertFault, CertTextKind, refused};
 
-/// What a header says: the kind, and how many potentials there are.
+/// What a header says: the kind, whether the spread of a net is its growth, and how many potentials there are.
 #[derive(Clone, Copy)]
 pub(crate) struct Header {
     pub(crate) kind: CertKind,
+    pub(crate) grows: bool,
     pub(crate) potentials: u32,
+}
+
+/// Whether the spread of a net is its growth, by the version.
+fn grows_said(line: u32, version: u64) -> Result<bool, CertFault>
+    ensures { Leads result (grows_said line version) Ok }
+{
+    match version {
+        1 => Ok(false),
+        4 => Ok(true),
+        _ => Err(refused(CertTextKind::BadVersion, line)),
+    }
 }
 
 /// The kind of this number, with a unit that it may have.
@@ -40,13 +52,14 @@ fn kind_said(line: u32, kind: u64, unit: u64) -> Result<CertKind, CertFault>
     }
 }
 
-/// How many potentials there are: none where they would have no value.
-fn count_said(fpgas: u32, line: u32, count: u64) -> Result<u32, CertFault>
-    ensures said { Leads result (count_said fpgas line count) Ok }
+/// How many potentials there are: none where nets grow, and where they would have no value.
+fn count_said(grows: bool, fpgas: u32, line: u32, count: u64) -> Result<u32, CertFault>
+    ensures said { Leads result (count_said grows fpgas line count) Ok }
     ensures few { IfOk result (λ count. count ≤ most_potentials) }
     ensures some { IfOk result (λ count. 0 < count → 0 < fpgas) }
+    ensures grown { IfOk result (λ count. grows ≡ true → count ≡ 0) }
 {
-    if count > MAX_POTENTIALS as u64 || (fpgas == 0 && count > 0) {
+    if count > MAX_POTENTIALS as u64 || ((grows || fpgas == 0) && count > 0) {
         return Err(refused(CertTextKind::CountLimit, line));
     }
     Ok(count as u32)
@@ -57,16 +70,19 @@ pub(crate) fn header_said(fpgas: u32, line: u32, numbers: &[u64]) -> Result<Head
     ensures said { Leads result (header_said fpgas line numbers.now) Ok }
     ensures few { IfOk result (λ header. header.potentials ≤ most_potentials) }
     ensures some { IfOk result (λ header. 0 < header.potentials → 0 < fpgas) }
+    ensures grown { IfOk result (λ header. header.grows ≡ true → header.potentials ≡ 0) }
     ensures kind { IfOk result (λ header. HasUnit header.kind) }
 {
     match numbers {
         [version, kind, unit, count] => {
-            if *version != 1 {
-                return Err(refused(CertTextKind::BadVersion, line));
-            }
+            let grows = grows_said(line, *version)?;
             let kind = kind_said(line, *kind, *unit)?;
-            let potentials = count_said(fpgas, line, *count)?;
-            Ok(Header { kind, potentials })
+            let potentials = count_said(grows, fpgas, line, *count)?;
+            Ok(Header {
+                kind,
+                grows,
+                potentials,
+            })
         }
         _ => Err(refused(CertTextKind::WrongCount, line)),
     }

@@ -45,6 +45,7 @@ pub fn hop_group_cert(
     let lengths = repeated(alloc, 1, problem.wires())?;
     Ok(Certificate::from_parts(
         CertKind::Hop { unit: 1 },
+        false,
         weights,
         lengths,
         reach.potentials,

@@ -1,5 +1,5 @@
 //! Laws on certificates and their bounds, which hold by the definitions alone.
-ghost use Rattle.bound_cert.specs.Laws.{SpreadLaw, LeastEvenLaw, DualBoundLaw};
+ghost use Rattle.bound_cert.specs.Laws.{SpreadLaw, LeastEvenLaw, DualBoundLaw, OneBoundLaw, ChosenBoundLaw};
 ghost use Rattle.bound_cert.specs.Growth.{GrowthLaw, OneGrowthLaw};
 
 /// Where a potential rises along no wire, either way, by more than the wire's length, wires that join FPGAs
@@ -14,9 +14,16 @@ pub fn bound_is_least()
     ensures { LeastEvenLaw }
 {}
 
-/// The dual bound: no legal solution has a value below the bound of a valid certificate, of either kind.
+/// The dual bound: no legal solution has a value below the bound of a valid certificate, of either kind, whether its nets
+/// are spread by their choices or by their growth.
 pub fn dual_bound()
     ensures { DualBoundLaw }
+{}
+
+/// A certificate has one bound alone, and one by choices has a bound, which is what they come to.
+pub fn bound_is_one()
+    ensures one { OneBoundLaw }
+    ensures chosen { ChosenBoundLaw }
 {}
 
 /// What joins FPGAs is at least as long as these grow: each in turn, but the first, until it reaches one that has not

@@ -5,7 +5,10 @@ ghost use Rattle.board_graph.specs.Graph.{graph_of};
 ghost use Rattle.bound_cert.specs.Certificate.{IsCertFor};
 ghost use Rattle.tdm_problem.specs.Legal.{AllConnectable};
 
-use crate::{CertKind, Certificate, hop_group_cert, uniform_share_cert, weighted_share_cert};
+use crate::{
+    CertKind, Certificate, growing_hop_cert, growing_share_cert, hop_group_cert, uniform_share_cert,
+    weighted_share_cert,
+};
 use board_graph::BoardGraph;
 use shortest_forest::{base_tree, hops};
 use std::alloc::{AllocError, Global};
@@ -148,6 +151,20 @@ fn star_over_lengths_has_its_numbers(alloc: Global) -> Result<bool, AllocError> 
     )
 }
 
+/// Makes the certificates by growth of the star.
+fn star_grows_by_its_numbers(alloc: Global) -> Result<bool, AllocError> {
+    let problem = star(alloc)?;
+    if problem.groups() != 1 || problem.wires() != 3 {
+        return Ok(false);
+    }
+    let shares = growing_share_cert(alloc, &problem, &[4], &[5, 0, 2])?;
+    let hops = growing_hop_cert(alloc, &problem, 0)?;
+    Ok(shares.grows()
+        && hops.grows()
+        && numbers(alloc, &problem, &shares)?.as_slice() == [4, 5, 0, 2, 0].as_slice()
+        && numbers(alloc, &problem, &hops)?.as_slice() == [1, 1, 1, 1, 0].as_slice())
+}
+
 /// Whether the star's certificates have the numbers that they must.
 fn star_has_its_numbers(alloc: Global) -> Result<bool, AllocError> {
     let problem = star(alloc)?;
@@ -181,5 +198,6 @@ fn certificates_have_the_numbers_of_their_boards(rt: HostRuntime) -> Result<(), 
     assert!(rt; path_has_its_numbers(rt.alloc())?);
     assert!(rt; weighted_has_its_numbers(rt.alloc())?);
     assert!(rt; star_over_lengths_has_its_numbers(rt.alloc())?);
+    assert!(rt; star_grows_by_its_numbers(rt.alloc())?);
     Ok(())
 }

@@ -20,13 +20,13 @@ pub enum CertTextKind {
     NumberTooLarge,
     /// The line has another number of tokens than its place asks for.
     WrongCount,
-    /// The header's version is not 1.
+    /// The header's version is neither 1 nor 4.
     BadVersion,
     /// The header's kind is neither 1 nor 2.
     BadKind,
     /// The header's unit is one that its kind cannot have: other than 0 for kind 1, 0 or above 2^20 for kind 2.
     BadUnit,
-    /// The header has more than 4,096 potentials, or some where the board has no FPGAs.
+    /// The header has more than 4,096 potentials, or some where the board has no FPGAs or the version is 4.
     CountLimit,
     /// A weight is above 2^40.
     WeightLimit,

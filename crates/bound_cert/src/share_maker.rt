@@ -54,6 +54,7 @@ pub fn uniform_share_cert(
     let lengths = repeated(alloc, wire_length, problem.wires())?;
     Ok(Certificate::from_parts(
         CertKind::Share,
+        false,
         weights,
         lengths,
         reach.potentials,

@@ -1,12 +1,12 @@
 //! What the lines of a certificate text are for, and what they say.
-ghost use Rattle.std.specs.Prelude.{◌≡◌, ◌<◌, ◌≤◌, ℕ, List, [], length, All, OnOk, IfOk, Ok, Result};
+ghost use Rattle.std.specs.Prelude.{◌≡◌, true, ◌<◌, ◌≤◌, ℕ, List, [], length, All, OnOk, IfOk, Ok, Result};
 ghost use Rattle.tdm_lines.specs.Lines.{Line};
 ghost use Rattle.bound_cert.specs.Certificate.{Cert, IsPotential, HasUnit};
 ghost use Rattle.bound_cert.specs.CertFaults.{Leads, IsFaultOf};
 ghost use Rattle.bound_cert.specs.CertReading.{header_said, number_said, potential_said};
 ghost use Rattle.bound_cert.specs.CertReader.{listed};
 ghost use Rattle.bound_cert.specs.Limits.{most_potentials, most_potential_value};
-ghost use Rattle.bound_cert.specs.Roles.{AreTaken, Holds, IsFine, IsKept, Reads, Takes, in_choices, in_potentials, line_said, past_header, past_weights, said_of, so_far};
+ghost use Rattle.bound_cert.specs.Roles.{AreTaken, Holds, IsFine, IsKept, Reads, Takes, in_potentials, line_said, past_header, past_potentials, past_weights, said_of, so_far};
 ghost use Rattle.bound_cert.specs.declared.refusal.CertRefusal.{CertRefusal as Refusal};
 ghost use Rattle.bound_cert.specs.declared.state.Role.TheVariants as role;
 
@@ -72,6 +72,7 @@ impl CertState {
             sizes,
             header: Header {
                 kind: CertKind::Share,
+                grows: false,
                 potentials: 0,
             },
             left: 0,
@@ -83,41 +84,48 @@ impl CertState {
         }
     }
 
-    /// Goes on to the choices, or past them where there are none.
-    fn begin_choices(&mut self)
+    /// Goes on to the choices, or past them where nets grow or there are none.
+    fn begin_choices(&mut self) -> Result<(), AllocError>
         requires kept { IsKept self.old.numbers self.old.sizes self.old.header.potentials (so_far self.old) }
         requires all_there { length self.old.potentials.items ≡ self.old.header.potentials }
         requires no_choice { self.old.choices.items ≡ [] }
-        ensures fine { IsFine self.new }
+        ensures fine { OnOk result (IsFine self.new) }
         ensures sizes { self.new.sizes ≡ self.old.sizes }
-        ensures said { (after : ℕ) (lines : List Line) → said_of self.new after lines
-            ≡ in_choices after self.old.sizes self.old.header.potentials (so_far self.old) self.old.sizes.nets lines }
+        ensures said { OnOk result ((after : ℕ) (lines : List Line) → said_of self.new after lines
+            ≡ past_potentials after self.old.sizes self.old.header.potentials (so_far self.old) lines) }
     {
-        self.left = self.sizes.nets;
+        if self.header.grows {
+            self.choices = vec![in self.alloc; 0; self.sizes.nets as usize]?;
+            self.role = Role::End;
+            return Ok(());
+        }
         if self.sizes.nets == 0 {
             self.role = Role::End;
-            return;
+            return Ok(());
         }
+        self.left = self.sizes.nets;
         self.role = Role::Choice;
+        Ok(())
     }
 
     /// Goes on to the potentials, or past them where there are none.
-    fn begin_potentials(&mut self)
+    fn begin_potentials(&mut self) -> Result<(), AllocError>
         requires kept { IsKept self.old.numbers self.old.sizes self.old.header.potentials (so_far self.old) }
         requires no_potential { self.old.potentials.items ≡ [] }
         requires no_choice { self.old.choices.items ≡ [] }
-        ensures fine { IsFine self.new }
+        ensures fine { OnOk result (IsFine self.new) }
         ensures sizes { self.new.sizes ≡ self.old.sizes }
-        ensures said { (after : ℕ) (lines : List Line) → said_of self.new after lines
+        ensures said { OnOk result ((after : ℕ) (lines : List Line) → said_of self.new after lines
             ≡ in_potentials after self.old.sizes self.old.header.potentials (so_far self.old)
-            self.old.header.potentials lines }
+            self.old.header.potentials lines) }
     {
         if self.header.potentials == 0 {
-            self.begin_choices();
-            return;
+            self.begin_choices()?;
+            return Ok(());
         }
         self.left = self.header.potentials;
         self.role = Role::Potential;
+        Ok(())
     }
 
     /// Goes on to the lengths, or past them where each is the unit or there are none.
@@ -134,12 +142,12 @@ impl CertState {
         match self.header.kind {
             CertKind::Hop { unit } => {
                 self.lengths = vec![in self.alloc; unit; self.sizes.wires as usize]?;
-                self.begin_potentials();
+                self.begin_potentials()?;
                 Ok(())
             }
             CertKind::Share => {
                 if self.sizes.wires == 0 {
-                    self.begin_potentials();
+                    self.begin_potentials()?;
                     return Ok(());
                 }
                 self.left = self.sizes.wires;
@@ -155,6 +163,7 @@ impl CertState {
         requires role { self.old.role ≡ role.Header }
         requires few { header.potentials ≤ most_potentials }
         requires some { 0 < header.potentials → 0 < self.old.sizes.fpgas }
+        requires grown { header.grows ≡ true → header.potentials ≡ 0 }
         requires kind { HasUnit header.kind }
         ensures fine { OnOk result (IsFine self.new) }
         ensures sizes { self.new.sizes ≡ self.old.sizes }
@@ -205,6 +214,7 @@ impl CertState {
         requires { IsFine self.now }
         ensures few { IfOk result (λ header. header.potentials ≤ most_potentials) }
         ensures some { IfOk result (λ header. 0 < header.potentials → 0 < self.now.sizes.fpgas) }
+        ensures grown { IfOk result (λ header. header.grows ≡ true → header.potentials ≡ 0) }
         ensures kind { IfOk result (λ header. HasUnit header.kind) }
         ensures said { (numbers : List ℕ) → AreTaken self.now.sizes self.now.numbers fault numbers
             → Leads result (line_said (header_said self.now.sizes.fpgas) line fault numbers) Ok }
@@ -290,7 +300,7 @@ impl CertState {
                 if self.left > 0 {
                     return Ok(());
                 }
-                self.begin_potentials();
+                self.begin_potentials()?;
                 Ok(())
             }
             Err(fault) => {
@@ -315,7 +325,7 @@ impl CertState {
                 if self.left > 0 {
                     return Ok(());
                 }
-                self.begin_choices();
+                self.begin_choices()?;
                 Ok(())
             }
             Err(fault) => {
@@ -388,6 +398,7 @@ impl CertState {
             Role::Refused(refusal) => Err(refusal),
             Role::End => Ok(Certificate::from_parts(
                 self.header.kind,
+                self.header.grows,
                 self.weights,
                 self.lengths,
                 self.potentials,

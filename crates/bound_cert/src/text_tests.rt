@@ -91,6 +91,12 @@ fn refuses_the_first_line_at_fault(rt: HostRuntime) -> Result<(), Fail> {
         CertTextKind::BadVersion,
         1,
     );
+    let version = CertTextKind::BadVersion;
+    assert_refused(&rt, alloc, &problem, b"3 1 0 0\n", version, 1);
+    let count = CertTextKind::CountLimit;
+    assert_refused(&rt, alloc, &problem, b"4 1 0 1\n", count, 1);
+    let choice = b"4 2 1 0\n1\n0\n";
+    assert_refused(&rt, alloc, &problem, choice, CertTextKind::ExtraLine, 3);
     assert_refused(&rt, alloc, &problem, b"\n \n", CertTextKind::NoHeader, 3);
     assert_refused(
         &rt,
@@ -151,6 +157,7 @@ fn assert_canonical(
     alloc: Global,
     answer: Result<Certificate, CertFault>,
     kind: CertKind,
+    potentials: u32,
     canonical: &[u8],
 ) -> Result<(), Fail> {
     let cert = match answer {
@@ -161,7 +168,8 @@ fn assert_canonical(
         }
     };
     assert!(rt; cert.kind() == kind);
-    assert_eq!(rt; cert.potentials(), 1);
+    assert_eq!(rt; cert.potentials(), potentials);
+    assert!(rt; cert.grows() == (potentials == 0));
     let desk = written(alloc, &cert)?;
     assert!(rt; desk.file("c") == Some(canonical));
     Ok(())
@@ -174,16 +182,21 @@ fn reads_and_writes_both_kinds(rt: HostRuntime) -> Result<(), Fail> {
     let share = b" 1 1\t0 01\r\n1\n\n3\n0 3\n1\n1\n1";
     let canonical = b"1 1 0 1\n1\n3\n0 3\n1\n1\n1\n";
     let hop = b"1 2 1048576 1\n5\n0 1048576\n1\n0\n1\n";
+    let growing = b"4 1 0 0\n1\n3\n";
     let kind = CertKind::Hop { unit: 1_048_576 };
     let whole = read_cert(alloc, share, &problem);
-    assert_canonical(&rt, alloc, whole, CertKind::Share, canonical)?;
+    assert_canonical(&rt, alloc, whole, CertKind::Share, 1, canonical)?;
     let whole = read_cert(alloc, hop, &problem);
-    assert_canonical(&rt, alloc, whole, kind, hop)?;
+    assert_canonical(&rt, alloc, whole, kind, 1, hop)?;
+    let whole = read_cert(alloc, b"4 1 0 0\n\n01\n 3", &problem);
+    assert_canonical(&rt, alloc, whole, CertKind::Share, 0, growing)?;
     for length in [1usize, 2, 7, 18] {
         let answer = read_in_pieces(&rt, alloc, share, length, &problem);
-        assert_canonical(&rt, alloc, answer, CertKind::Share, canonical)?;
+        assert_canonical(&rt, alloc, answer, CertKind::Share, 1, canonical)?;
         let answer = read_in_pieces(&rt, alloc, hop, length, &problem);
-        assert_canonical(&rt, alloc, answer, kind, hop)?;
+        assert_canonical(&rt, alloc, answer, kind, 1, hop)?;
+        let answer = read_in_pieces(&rt, alloc, growing, length, &problem);
+        assert_canonical(&rt, alloc, answer, CertKind::Share, 0, growing)?;
     }
     Ok(())
 }

@@ -72,6 +72,7 @@ pub fn weighted_share_cert(
     let potentials = length_potentials(alloc, graph, roots.fpgas.as_slice(), lengths)?;
     Ok(Certificate::from_parts(
         CertKind::Share,
+        false,
         weights.to_vec(alloc)?,
         lengths.to_vec(alloc)?,
         potentials,

@@ -7,7 +7,7 @@ ghost use Rattle.tdm_desk.specs.Seen.{output_is_open, written, PrefixWritten};
 ghost use Rattle.tdm_desk.specs.Counts.{CountsFaults, CountsOnlyWriting, WritingFailed};
 ghost use Rattle.tdm_lines.specs.Written.{line_text};
 ghost use Rattle.text_writer.specs.Writing.{IsUnderWay};
-ghost use Rattle.bound_cert.specs.CertText.{number_of_kind, unit_of_kind, header_row, number_line, cert_text};
+ghost use Rattle.bound_cert.specs.CertText.{version_of, number_of_kind, unit_of_kind, header_row, number_line, cert_text};
 
 use crate::certificate::{CertKind, Certificate};
 use tdm_desk::{Desk, DeskFault, OutSlot};
@@ -15,7 +15,7 @@ use text_writer::{Pending, flush, put_line, put_number, put_numbers};
 
 /// Adds the text of a certificate to the file of an open output: a header of the version, the kind, its unit and the
 /// number of potentials, then a line for each weight, for each length unless the certificate is by hops, for each
-/// potential and for each choice of a net.
+/// potential and for each choice of a net unless nets grow.
 ///
 /// It takes no memory of its own. After a fault a prefix of the text was added, and the slot stays open.
 pub fn write_cert<D: Desk>(desk: &mut D, slot: OutSlot, cert: &Certificate) -> Result<(), DeskFault>
@@ -34,9 +34,16 @@ pub fn write_cert<D: Desk>(desk: &mut D, slot: OutSlot, cert: &Certificate) -> R
     put_numbers(desk, slot, &mut pending, cert.weights(), b'\n')?;
     put_numbers(desk, slot, &mut pending, cert.listed_lengths(), b'\n')?;
     put_potentials(desk, slot, &mut pending, cert)?;
-    put_choices(desk, slot, &mut pending, cert.choices())?;
+    put_choices(desk, slot, &mut pending, cert.listed_choices())?;
     flush(desk, slot, &mut pending)?;
     Ok(())
+}
+
+/// The version: 4 where the spread of a net is its growth, and else 1.
+fn version_of(grows: bool) -> u64
+    ensures { result ≡ version_of grows }
+{
+    if grows { 4 } else { 1 }
 }
 
 /// The number of a kind.
@@ -78,7 +85,7 @@ fn put_header<D: Desk>(
 {
     let kind = cert.kind();
     let row = [
-        1,
+        version_of(cert.grows()),
         number_of_kind(kind),
         unit_of_kind(kind),
         cert.potentials() as u64,

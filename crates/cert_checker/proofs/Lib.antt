@@ -10,3 +10,8 @@ pub mod GrowingLaws
 pub mod MarkedListLaws
 pub mod NetGrowthLaws
 pub mod SameGrowth
+pub mod GrowthSizes
+pub mod WeightedSums
+pub mod Bounded
+pub mod SpreadLists
+pub mod RisingLaws

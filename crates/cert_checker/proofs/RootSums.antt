@@ -1,33 +1,47 @@
 -- sums over nets by the roots of their weights
-use Rattle.std.proofs.Common.{◌≡◌, ℕ, zero, suc, ◌*◌, ◌≤◌, List, ◌++◌, length, map, get_or, take, drop, ap, ◌∙◌, arith}
+use Rattle.std.proofs.Common.{◌≡◌, ℕ, ◌+◌, ◌*◌, ◌^◌, ◌<◌, ◌≤◌, ◌⊎◌, inl, inr, List, [], ◌∷◌, ◌++◌, length, map, get_or, take, drop, ap, ◌∙◌, arith}
 use Rattle.std.specs.Prelude.{sum}
+use Rattle.std.proofs.lemmas.Bool.{cases_lt}
+use Rattle.std.proofs.lemmas.Nat.{mul-le}
 use Rattle.std.proofs.lemmas.List.{get_or-map, length-map, take_at}
-use Rattle.std.proofs.lemmas.List.Sums.{sum-map, sum_by-le-sum_by}
+use Rattle.std.proofs.lemmas.List.Sums.{sum_by-cons}
 use Rattle.tdm_problem.specs.Board.{Board}
 use Rattle.tdm_problem.specs.Roots.{root_of}
 use Rattle.tdm_problem.specs.Sums.{sum_below}
 use Rattle.tdm_problem.proofs.Roots.{root_of-square}
 use Rattle.tdm_problem.proofs.SumsBelow.{sum_below-agree}
 use Rattle.bound_cert.specs.Certificate.{Cert}
-use Rattle.bound_cert.specs.Bound.{net_spread, root_spreads}
+use Rattle.bound_cert.specs.Bound.{root_sum, weight_sum}
 use Rattle.cert_checker.specs.NetWeights.{AreNetWeights}
 
--- a number is at most its square
-le_square : (r : ℕ) → r ≤ r * r
-le_square zero = omega arith
-le_square (suc r) = omega arith
+-- the root of a number of 64 bits
+root-small : (n : ℕ) → n ≤ 2 ^ 64 → root_of n ≤ 2 ^ 32
+root-small n small = go (cases_lt (2 ^ 32) (root_of n))
+  where
+    go : (2 ^ 32 < root_of n) ⊎ (root_of n ≤ 2 ^ 32) → root_of n ≤ 2 ^ 32
+    go (inl more) = absurd (omega (arith, root_of-square n, small, mul-le (2 ^ 32 + 1) (2 ^ 32 + 1) (root_of n) (root_of n) (omega (arith, more)) (omega (arith, more))))
+    go (inr fine) = fine
 
--- the roots of numbers sum to at most the numbers
-pub sum_of_roots-le : (xs : List ℕ) → sum (map root_of xs) ≤ sum xs
-sum_of_roots-le xs =
-    omega (arith, sum-map root_of xs, sum_by-le-sum_by root_of (λ (x : ℕ). x) xs (λ x. omega (arith, le_square (root_of x), root_of-square x)))
+-- the roots of numbers that sum to one of 64 bits
+pub sum_of_roots-le : (xs : List ℕ) → sum xs ≤ 2 ^ 64 → sum (map root_of xs) ≤ length xs * 2 ^ 32
+sum_of_roots-le [] small = omega arith
+sum_of_roots-le (x ∷ xs) small =
+    let whole : sum (x ∷ xs) ≡ x + sum xs = sum_by-cons (λ y. y) x xs in
+    let roots : sum (map root_of (x ∷ xs)) ≡ root_of x + sum (map root_of xs) = sum_by-cons (λ y. y) (root_of x) (map root_of xs) in
+    omega (arith, roots, root-small x (omega (arith, small, whole)), sum_of_roots-le xs (omega (arith, small, whole)))
 
--- the spreads by the roots of the listed weights
-pub root_spreads_is : (board : Board) (cert : Cert) (weights : List ℕ) → AreNetWeights board cert weights → sum_below (length board.nets) (λ n. get_or (map root_of weights) n 0 * net_spread board cert n) ≡ root_spreads board cert
-root_spreads_is board cert weights are =
-    sum_below-agree (length board.nets) (λ n. get_or (map root_of weights) n 0 * net_spread board cert n) _
-    (λ n there. ap (λ (root : ℕ). root * net_spread board cert n)
+-- spreads by the roots of the listed weights
+pub root_sum_is : (board : Board) (cert : Cert) (weights spreads : List ℕ) → AreNetWeights board cert weights → sum_below (length board.nets) (λ n. get_or (map root_of weights) n 0 * get_or spreads n 0) ≡ root_sum board cert (λ n. get_or spreads n 0)
+root_sum_is board cert weights spreads are =
+    sum_below-agree (length board.nets) (λ n. get_or (map root_of weights) n 0 * get_or spreads n 0) _
+    (λ n there. ap (λ (root : ℕ). root * get_or spreads n 0)
     (get_or-map root_of weights n 0 0 (omega (arith, are.whole)) ∙ ap root_of (are.each n there)))
+
+-- spreads by the listed weights
+pub weight_sum_is : (board : Board) (cert : Cert) (weights spreads : List ℕ) → AreNetWeights board cert weights → sum_below (length board.nets) (λ n. get_or weights n 0 * get_or spreads n 0) ≡ weight_sum board cert (λ n. get_or spreads n 0)
+weight_sum_is board cert weights spreads are =
+    sum_below-agree (length board.nets) (λ n. get_or weights n 0 * get_or spreads n 0) _
+    (λ n there. ap (λ (weight : ℕ). weight * get_or spreads n 0) (are.each n there))
 
 -- the roots that were written over a list's numbers
 pub written_back : (numbers handed roots now : List ℕ) (size : ℕ) → handed ≡ numbers → roots ≡ map root_of handed → length handed ≡ size → now ≡ take size (roots ++ drop (length roots) numbers) → now ≡ map root_of numbers

@@ -1,19 +1,19 @@
 -- When an answer to a certificate is right.
-use Rattle.std.specs.Prelude.{◌≡◌, ℕ, ◌≤◌}
+use Rattle.std.specs.Prelude.{ℕ, ◌≤◌}
 use Rattle.tdm_problem.specs.Board.{Board}
 use Rattle.tdm_problem.specs.Routing.{Routing}
 use Rattle.tdm_problem.specs.Legal.{IsLegal}
 use Rattle.tdm_problem.specs.Value.{value_of}
 use Rattle.bound_cert.specs.Certificate.{Cert}
 use Rattle.bound_cert.specs.Valid.{IsValid}
-use Rattle.bound_cert.specs.Bound.{bound_of}
+use Rattle.bound_cert.specs.Bound.{IsBound}
 use Rattle.cert_checker.specs.declared.answer.CheckAnswer.{CheckAnswer}
 use Rattle.cert_checker.specs.declared.answer.CheckAnswer.TheVariants.{Accepted, Rejected}
 use Rattle.cert_checker.specs.Steep.{IsFirstSteep}
 
 -- the answer is right: accepted with the bound of a valid certificate, or rejected with the first steep pair
 abbrev pub IsAnswer : Board → Cert → CheckAnswer → Type 0
-IsAnswer board cert (Accepted bound) = IsValid board cert × (bound ≡ bound_of board cert)
+IsAnswer board cert (Accepted bound) = IsValid board cert × IsBound board cert bound
 IsAnswer board cert (Rejected pair) = IsFirstSteep board cert pair
 
 -- the answer accepts the certificate

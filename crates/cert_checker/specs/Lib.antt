@@ -4,3 +4,4 @@ pub mod Answer
 pub mod Growing
 pub mod MarkedLists
 pub mod NetGrowths
+pub mod Spreads

@@ -7,6 +7,7 @@ ghost use Rattle.cert_checker.specs.Answer.{IsAnswer, IsAcceptance, HasLowerBoun
 
 use crate::bound::bound;
 use crate::net_weights::net_weights;
+use crate::spread::spreads;
 use crate::steep::{Steep, first_steep};
 use bound_cert::Certificate;
 use std::alloc::{AllocError, Global};
@@ -41,7 +42,8 @@ pub fn check(
         return Ok(CheckAnswer::Rejected(steep));
     }
     let weights = net_weights(alloc, problem, cert)?;
+    let spreads = spreads(alloc, problem, cert, &weights)?;
     Ok(CheckAnswer::Accepted {
-        bound: bound(problem, cert, weights),
+        bound: bound(problem, cert, weights, &spreads),
     })
 }

@@ -1,44 +1,76 @@
 //! The bound of a certificate.
-ghost use Rattle.std.specs.Prelude.{◌≡◌, ◌*◌, ◌<◌, ◌≤◌, ◌^◌, length, map, sum, sum_by};
+ghost use Rattle.std.specs.Prelude.{◌≡◌, ◌*◌, ◌<◌, ◌≤◌, ◌^◌, ℕ, length, map, slice_index, sum, sum_by, All};
 ghost use Rattle.tdm_problem.specs.Roots.{root_of};
 ghost use Rattle.tdm_problem.specs.Board.{IsBoard};
 ghost use Rattle.bound_cert.specs.Certificate.{IsCert, IsCertFor};
 ghost use Rattle.bound_cert.specs.Valid.{IsValid};
 ghost use Rattle.cert_checker.specs.Answer.{IsLowerBound};
-ghost use Rattle.bound_cert.specs.Bound.{demand_of, divisor_of, least_even, bound_of};
+ghost use Rattle.bound_cert.specs.Bound.{demand_by, divisor_of, least_even, IsBound};
 ghost use Rattle.cert_checker.specs.NetWeights.{AreNetWeights};
+ghost use Rattle.cert_checker.specs.Spreads.{AreSpreads};
+ghost use Rattle.tdm_problem.specs.Sums.{sum_below};
 
-use crate::spread::sum_of_spreads;
 use bound_cert::{CertKind, Certificate};
 use integer_root::isqrt;
 use tdm_problem::Problem;
 
-/// The bound that the certificate carries, by the weights of the nets.
-pub(crate) fn bound(problem: &Problem, cert: &Certificate, weights: Vec<u64>) -> u128
+/// The bound that the certificate carries, by the weights of the nets and how far they are spread.
+pub(crate) fn bound(
+    problem: &Problem,
+    cert: &Certificate,
+    weights: Vec<u64>,
+    spreads: &[u128],
+) -> u128
+    requires board { IsBoard problem.now }
     requires is_for { IsCertFor problem.now cert.now }
     requires weights { AreNetWeights problem.now cert.now weights.items }
-    ensures value { result ≡ bound_of problem.now cert.now }
-    ensures lower { IsBoard problem.now → IsValid problem.now cert.now → IsLowerBound problem.now result }
+    requires spreads { AreSpreads problem.now cert.now spreads.now }
+    ensures value { IsBound problem.now cert.now result }
+    ensures lower { IsValid problem.now cert.now → IsLowerBound problem.now result }
 {
-    least_even(demand(problem, cert, weights), divisor(problem, cert))
+    least_even(
+        demand(problem, cert, weights, spreads),
+        divisor(problem, cert),
+    )
 }
 
 /// What the bound times the divisor must reach, 0 where that is negative.
-fn demand(problem: &Problem, cert: &Certificate, mut weights: Vec<u64>) -> u128
+fn demand(
+    problem: &Problem,
+    cert: &Certificate,
+    mut weights: Vec<u64>,
+    spreads: &[u128],
+) -> u128
+    requires board { IsBoard problem.now }
     requires is_for { IsCertFor problem.now cert.now }
     requires weights { AreNetWeights problem.now cert.now weights.items }
+    requires spreads { AreSpreads problem.now cert.now spreads.now }
     ensures ranges { IsCert cert.now }
-    ensures value { result ≡ demand_of problem.now cert.now }
+    ensures value { result ≡ demand_by cert.now.kind problem.now cert.now (slice_index spreads.now) }
     ensures within { result ≤ 2 ^ 125 }
 {
     match cert.kind() {
         CertKind::Share => {
             take_roots(&mut weights);
-            let spreads = 2 * sum_of_spreads(problem, cert, &weights);
-            spreads.saturating_sub(sum_of_squares(problem, cert))
+            let total = 2 * weighted_sum(&weights, spreads);
+            total.saturating_sub(sum_of_squares(problem, cert))
         }
-        CertKind::Hop { unit: _ } => 2 * sum_of_spreads(problem, cert, &weights),
+        CertKind::Hop { unit: _ } => 2 * weighted_sum(&weights, spreads),
     }
+}
+
+/// The sum of the spreads, each times its factor.
+fn weighted_sum(factors: &[u64], spreads: &[u128]) -> u128
+    requires whole { length spreads.now ≡ length factors.now }
+    requires small { (most : ℕ) × All (λ s. s ≤ most) spreads.now × (sum factors.now * most ≤ 2 ^ 124) }
+    ensures value { result ≡ sum_below (length factors.now) (λ n. slice_index factors.now n * slice_index spreads.now n) }
+    ensures within { result ≤ 2 ^ 124 }
+{
+    let mut total = 0;
+    for n in 0..factors.len() {
+        total += u128::from(factors[n]) * spreads[n];
+    }
+    total
 }
 
 /// Puts the whole square root of each number in its place.

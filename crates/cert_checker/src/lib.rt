@@ -11,6 +11,7 @@ mod growth;
 mod growth_tests;
 mod marked_list;
 mod net_growths;
+mod net_growth;
 mod net_weights;
 mod spread;
 mod steep;

@@ -1,27 +1,49 @@
-//! How far the values of potentials lie apart.
-ghost use Rattle.std.specs.Prelude.{◌≡◌, ◌+◌, ◌*◌, ◌<◌, ◌≤◌, ◌^◌, length, slice_index, sum, All};
-ghost use Rattle.tdm_problem.specs.Sums.{sum_below};
+//! How far nets are spread: by the potentials that they choose, or by their growth.
+ghost use Rattle.std.specs.Prelude.{◌≡◌, ◌+◌, ◌*◌, ◌<◌, ◌≤◌, ◌^◌, true, false, length, slice_index, sum, All, IfOk};
 ghost use Rattle.bound_cert.specs.Certificate.{IsCertFor, IsPotential};
 ghost use Rattle.bound_cert.specs.Bound.{spread, net_spread};
 ghost use Rattle.bound_cert.specs.Limits.{most_potential_value};
+ghost use Rattle.cert_checker.specs.NetWeights.{AreNetWeights};
+ghost use Rattle.cert_checker.specs.Spreads.{AreSpreads};
 
+use crate::net_growth::net_growths;
 use bound_cert::Certificate;
+use std::alloc::{AllocError, Global};
 use tdm_problem::Problem;
 
-/// The sum over all nets of a factor times how far the values of the net's potential lie apart.
-pub(crate) fn sum_of_spreads(problem: &Problem, cert: &Certificate, factors: &[u64]) -> u128
+/// How far each net is spread, nets in order: by its growth where nets of the certificate grow, and else by its choice.
+/// For nets without weight it may be any number. The only error is want of memory.
+pub(crate) fn spreads(
+    alloc: Global,
+    problem: &Problem,
+    cert: &Certificate,
+    weights: &[u64],
+) -> Result<Vec<u128>, AllocError>
     requires is_for { IsCertFor problem.now cert.now }
-    requires whole { length factors.now ≡ length problem.now.nets }
-    requires small { sum factors.now ≤ 2 ^ 64 }
-    ensures value { result ≡ sum_below (length problem.now.nets)
-        (λ n. slice_index factors.now n * net_spread problem.now cert.now n) }
-    ensures within { result ≤ 2 ^ 124 }
+    requires weights { AreNetWeights problem.now cert.now weights.now }
+    ensures { IfOk result (λ spreads. AreSpreads problem.now cert.now spreads.items) }
 {
-    let mut total = 0;
-    for n in 0..problem.nets() {
-        total += u128::from(factors[n as usize]) * u128::from(spread_of_net(problem, cert, n));
+    if cert.grows() {
+        return net_growths(alloc, problem, cert, weights);
     }
-    total
+    chosen_spreads(alloc, problem, cert)
+}
+
+/// How far the values of each net's potential lie apart, nets in order.
+fn chosen_spreads(
+    alloc: Global,
+    problem: &Problem,
+    cert: &Certificate,
+) -> Result<Vec<u128>, AllocError>
+    requires is_for { IsCertFor problem.now cert.now }
+    requires chosen { cert.now.grows ≡ false }
+    ensures { IfOk result (λ spreads. AreSpreads problem.now cert.now spreads.items) }
+{
+    let mut spreads = Vec::with_capacity(alloc, problem.nets() as usize)?;
+    for n in 0..problem.nets() {
+        spreads.push(u128::from(spread_of_net(problem, cert, n)))?;
+    }
+    Ok(spreads)
 }
 
 /// How far the values of the potential that net `n` chooses lie apart over its FPGAs; 0 where it chooses none.

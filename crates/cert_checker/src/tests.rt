@@ -106,6 +106,17 @@ fn bounds_are_least_and_even(rt: HostRuntime) -> Result<(), Fail> {
 }
 
 #[test]
+fn a_star_is_bounded_by_its_growth(rt: HostRuntime) -> Result<(), Fail> {
+    let alloc = rt.alloc();
+    assert!(rt; is_accepted(alloc, three_nets(alloc), b"4 1 0 0\n1\n3\n", 10)?);
+    assert!(rt; is_accepted(alloc, star(alloc), b"4 1 0 0\n1\n1\n1\n1\n", 4)?);
+    assert!(rt; is_accepted(alloc, star(alloc), b"4 1 0 0\n1\n2\n2\n2\n", 0)?);
+    assert!(rt; is_accepted(alloc, star(alloc), b"4 2 1 0\n1\n", 6)?);
+    assert!(rt; is_accepted(alloc, star(alloc), b"4 2 1 0\n0\n", 0)?);
+    Ok(())
+}
+
+#[test]
 fn the_first_steep_pair_is_named(rt: HostRuntime) -> Result<(), Fail> {
     let alloc = rt.alloc();
     let first = Steep {

@@ -70,6 +70,7 @@ IsBest-baseline board routing value certified baseline best value_is bound_is =
         cert_for = proof.for_board;
         cert_few = proof.few;
         valid = proof.valid;
+        bound = proof.bound;
         lower = proof.lower;
         hop_floor = hop-floor board certified.cert best;
         share_floor = share-floor board certified.cert best;

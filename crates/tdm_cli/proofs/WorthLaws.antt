@@ -20,9 +20,8 @@ use Rattle.solution_eval.specs.declared.judgement.Verdict.TheVariants.{Legal, No
 use Rattle.solution_eval.specs.Verdict.{IsVerdict, SaysLegal}
 use Rattle.bound_cert.specs.Certificate.{Cert}
 use Rattle.bound_cert.specs.CertReading.{cert_of}
-use Rattle.bound_cert.specs.Bound.{bound_of}
 use Rattle.bound_cert.proofs.Accepted.{accepted-cert}
-use Rattle.bound_cert.proofs.DualBound.{bound_of-le_value}
+use Rattle.bound_cert.proofs.DualBound.{bound-le_value}
 use Rattle.bound_cert.proofs.CertReadsBack.{text_reads_back as cert_text_reads_back}
 use Rattle.bound_cert.proofs.CertSize.{never_too_long as cert_never_too_long}
 use Rattle.cert_checker.specs.declared.answer.CheckAnswer.{CheckAnswer}
@@ -36,7 +35,7 @@ use Rattle.tdm_cli.specs.declared.status.Status.{Status}
 use Rattle.tdm_cli.specs.declared.status.Status.TheVariants as status
 use Rattle.tdm_cli.specs.Kinds.{faults, boards, solutions, certificates}
 use Rattle.tdm_cli.specs.Request.{Request, route, eval, check, nothing, inputs_of, outputs_of}
-use Rattle.tdm_cli.specs.Reports.{bound_report, verdict_report, answer_report}
+use Rattle.tdm_cli.specs.Reports.{verdict_report, answer_report}
 use Rattle.tdm_cli.specs.Outcomes.{comes_to, Routes, is_unconnectable, is_over_limit, is_routed, status_of_verdict, Judges, status_of_answer, Checks, CallsFor}
 use Rattle.tdm_cli.specs.Asked.{IsOutsideFault}
 use Rattle.tdm_cli.specs.Promises.{IsRouted, IsJudged, IsBounded, IsRejected, IsWorth, BoundsHold}
@@ -44,8 +43,8 @@ use Rattle.tdm_cli.proofs.EndedLaws.{ended, told-calls}
 
 -- the bound of a certificate that is accepted for a board is below the value of each legal solution
 pub bounds-hold : BoundsHold
-bounds-hold board_text cert_text board cert described certified valid routing legal =
-    bound_of-le_value board cert routing (accepted-board board_text board described) (accepted-cert board cert_text cert certified) valid legal
+bounds-hold board_text cert_text board cert bound described certified valid is routing legal =
+    bound-le_value board cert bound routing (accepted-board board_text board described) (accepted-cert board cert_text cert certified) valid is legal
 
 -- what holds where there is no file, or it is refused, and of all that comes of what it says, holds of each status
 module _ {V R : Type 0} (slot : InSlot) (kind : TextKind Status V R) (Then : V → Outcome Status → Type 0) (P : Status → Type 0) where
@@ -84,6 +83,7 @@ module _ (files : Files) (before after : Seen) (told : files_of before ≡ Some 
         no_worse = may.no_worse;
         proof = proof;
         valid = may.valid;
+        bound = may.bound;
         lower = may.lower;
         hop_floor = may.hop_floor;
         share_floor = may.share_floor;
@@ -130,9 +130,11 @@ module _ (files : Files) (before after : Seen) (told : files_of before ≡ Some 
         certificate = proof;
         certified = (text, certified, is);
         valid = right.0;
-        lower = bounds-hold bytes text board proof says is right.0;
+        bound = bound;
+        is_bound = right.1;
+        lower = bounds-hold bytes text board proof bound says is right.0 right.1;
         kept = left-files [] outcome _ left e;
-        told = left-said [] outcome _ left e ∙ ap (λ b. option_map (λ s. s ++ bound_report b) (said_of before)) right.1;
+        told = left-said [] outcome _ left e;
       }
       by (Rejected pair) right e = record {
         board = board;

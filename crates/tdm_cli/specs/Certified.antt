@@ -4,7 +4,7 @@ use Rattle.tdm_problem.specs.Board.{Board}
 use Rattle.bound_cert.specs.Limits.{most_potential_values}
 use Rattle.bound_cert.specs.Certificate.{Cert, IsCert, IsCertFor}
 use Rattle.bound_cert.specs.Valid.{IsValid}
-use Rattle.bound_cert.specs.Bound.{bound_of}
+use Rattle.bound_cert.specs.Bound.{bound_of, IsBound}
 use Rattle.bound_cert.specs.Floors.{IsHopFloor, IsShareFloor}
 use Rattle.bound_cert.specs.Makers.{IsHopGroupCert, IsUniformShareCert}
 use Rattle.cert_checker.specs.Answer.{IsLowerBound}
@@ -15,6 +15,7 @@ pub record IsProof (board : Board) (cert : Cert) : Type 0 where
   pub for_board : IsCertFor board cert
   pub valid : IsValid board cert
   pub few : sum_by length cert.potentials ≤ most_potential_values
+  pub bound : IsBound board cert (bound_of board cert)
   pub lower : IsLowerBound board (bound_of board cert)
 
 -- a certificate by hops for the deepest group, whose bound is twice that group's depth

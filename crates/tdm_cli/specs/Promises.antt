@@ -19,7 +19,7 @@ use Rattle.bound_cert.specs.Certificate.{Cert}
 use Rattle.bound_cert.specs.CertText.{cert_text}
 use Rattle.bound_cert.specs.CertReading.{cert_of}
 use Rattle.bound_cert.specs.Valid.{IsValid}
-use Rattle.bound_cert.specs.Bound.{bound_of}
+use Rattle.bound_cert.specs.Bound.{bound_of, IsBound}
 use Rattle.bound_cert.specs.Floors.{IsHopFloor, IsShareFloor}
 use Rattle.cert_checker.specs.declared.steep.Steep.{Steep}
 use Rattle.cert_checker.specs.Steep.{IsFirstSteep}
@@ -60,6 +60,7 @@ pub record IsRouted (files : Files) (name solution cert : Name) (count : ℕ) (b
   pub no_worse : (value : ℕ) → IsBaselineValue board value → value_of board routing ≤ value
   pub proof : Cert
   pub valid : IsValid board proof
+  pub bound : IsBound board proof (bound_of board proof)
   pub lower : IsLowerBound board (bound_of board proof)
   pub hop_floor : (floor : ℕ) → IsHopFloor board floor → floor ≤ bound_of board proof
   pub share_floor : (floor : ℕ) → IsShareFloor board floor → floor ≤ bound_of board proof
@@ -90,9 +91,11 @@ pub record IsBounded (files : Files) (name cert : Name) (before after : Seen) : 
   pub certificate : Cert
   pub certified : Certifies files cert board certificate
   pub valid : IsValid board certificate
-  pub lower : IsLowerBound board (bound_of board certificate)
+  pub bound : ℕ
+  pub is_bound : IsBound board certificate bound
+  pub lower : IsLowerBound board bound
   pub kept : files_of after ≡ Some files
-  pub told : said_of after ≡ option_map (λ s. s ++ bound_report (bound_of board certificate)) (said_of before)
+  pub told : said_of after ≡ option_map (λ s. s ++ bound_report bound) (said_of before)
 
 -- the certificate in one file is not valid for the board in the other and its first steep pair is said, and no file is
 -- changed
@@ -120,6 +123,6 @@ IsWorth request files before after answer = Unit {0}
 
 -- no legal solution of a board has a value below the bound of a certificate that is accepted for it, whoever made it
 abbrev pub BoundsHold : Type 0
-BoundsHold = (board_text cert_text : Bytes) (board : Board) (cert : Cert)
+BoundsHold = (board_text cert_text : Bytes) (board : Board) (cert : Cert) (bound : ℕ)
     → board_of board_text ≡ Ok board → cert_of board cert_text ≡ Ok cert → IsValid board cert
-    → IsLowerBound board (bound_of board cert)
+    → IsBound board cert bound → IsLowerBound board bound

@@ -11,7 +11,7 @@ use Rattle.shortest_forest.specs.Baseline.{AreBaseTrees}
 use Rattle.bound_cert.specs.Limits.{most_potential_values}
 use Rattle.bound_cert.specs.Certificate.{Cert, IsCert, IsCertFor}
 use Rattle.bound_cert.specs.Valid.{IsValid}
-use Rattle.bound_cert.specs.Bound.{bound_of}
+use Rattle.bound_cert.specs.Bound.{bound_of, IsBound}
 use Rattle.bound_cert.specs.Floors.{IsHopFloor, IsShareFloor}
 use Rattle.cert_checker.specs.Answer.{IsLowerBound}
 use Rattle.tdm_cli.specs.Baseline.{most_uses}
@@ -33,6 +33,7 @@ pub record IsRouting (board : Board) (routing : Routing) (cert : Cert) : Type 0 
   pub cert_for : IsCertFor board cert
   pub cert_few : sum_by length cert.potentials ≤ most_potential_values
   pub valid : IsValid board cert
+  pub bound : IsBound board cert (bound_of board cert)
   pub lower : IsLowerBound board (bound_of board cert)
   pub hop_floor : (floor : ℕ) → IsHopFloor board floor → floor ≤ bound_of board cert
   pub share_floor : (floor : ℕ) → IsShareFloor board floor → floor ≤ bound_of board cert

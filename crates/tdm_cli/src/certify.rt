@@ -1,9 +1,9 @@
 //! The certificate of a board: of two that are made, the one with the greater bound.
-ghost use Rattle.std.specs.Prelude.{◌≡◌, IfOk};
+ghost use Rattle.std.specs.Prelude.{◌≡◌, false, IfOk};
 ghost use Rattle.board_graph.specs.Graph.{graph_of};
 ghost use Rattle.bound_cert.specs.Certificate.{IsCertFor};
 ghost use Rattle.bound_cert.specs.Valid.{IsValid};
-ghost use Rattle.bound_cert.specs.Bound.{bound_of};
+ghost use Rattle.bound_cert.specs.Bound.{bound_of, IsBound};
 ghost use Rattle.tdm_problem.specs.Legal.{AllConnectable};
 ghost use Rattle.cert_checker.specs.Answer.{IsLowerBound};
 ghost use Rattle.tdm_cli.specs.Certified.{IsHopProof, IsShareProof, IsBestCert};
@@ -21,7 +21,7 @@ pub struct Certified {
     pub bound: u128,
 }
 
-/// The bound that a valid certificate is checked to carry.
+/// The bound that a valid certificate by choices is checked to carry.
 pub(crate) fn checked_bound(
     alloc: Global,
     problem: &Problem,
@@ -29,7 +29,9 @@ pub(crate) fn checked_bound(
 ) -> Result<u128, AllocError>
     requires for_problem { IsCertFor problem.now cert.now }
     requires valid { IsValid problem.now cert.now }
+    requires chosen { cert.now.grows ≡ false }
     ensures bound { IfOk result (λ bound. bound ≡ bound_of problem.now cert.now) }
+    ensures is_bound { IfOk result (λ _. IsBound problem.now cert.now (bound_of problem.now cert.now)) }
     ensures lower { IfOk result (IsLowerBound problem.now) }
 {
     match check(alloc, problem, cert)? {

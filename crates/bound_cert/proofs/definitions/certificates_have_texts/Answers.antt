@@ -9,3 +9,11 @@ returns-clause-share c = refl
 pub returns-clause-hop : goal.returns-clause-hop
 unfolding digits
 returns-clause-hop c = refl
+
+pub returns-clause-growing_share : goal.returns-clause-growing_share
+unfolding digits
+returns-clause-growing_share c = refl
+
+pub returns-clause-growing_hop : goal.returns-clause-growing_hop
+unfolding digits
+returns-clause-growing_hop c = refl

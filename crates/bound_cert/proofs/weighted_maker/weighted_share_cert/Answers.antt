@@ -1,4 +1,4 @@
-use Rattle.std.proofs.Common.{rules, ◌≡◌, ℕ, ◌<◌, List, get_or, sym, ap, ◌∙◌, subst, arith}
+use Rattle.std.proofs.Common.{rules, ◌≡◌, ℕ, false, ◌<◌, List, get_or, sym, ap, ◌∙◌, subst, arith}
 use Rattle.std.specs.Prelude.{All}
 use Rattle.board_graph.specs.Graph.{Graph}
 use Rattle.bound_cert.specs.declared.certificate.CertKind.TheVariants.{Share}
@@ -43,7 +43,7 @@ made c =
     let choices : List ℕ = c.in_ok-roots.roots.choices.items in
     let weights : c.in_ok-to_vec.field-0.items ≡ c.args.weights.now = c.in_ok-to_vec.ensures.items_if_clones_equal (search rules) in
     let lengths : c.in_ok-to_vec-2.field-0.items ≡ c.args.lengths.now = c.in_ok-to_vec-2.ensures.items_if_clones_equal (search rules) in
-    let cert_of : List ℕ → List ℕ → Cert = λ ws ls. record { kind = Share; weights = ws; lengths = ls; potentials = potentials; choices = choices } in
+    let cert_of : List ℕ → List ℕ → Cert = λ ws ls. record { kind = Share; grows = false; weights = ws; lengths = ls; potentials = potentials; choices = choices } in
     let from_roots : AreRootPotentials board (wire_length c.args.lengths.now) potentials =
     root_potentials board (wire_length c.args.lengths.now) c.as_slice.result.now potentials
     (c.as_slice.ensures.keys ∙ c.in_ok-roots.ensures.fpgas) (c.in_ok-potentials.ensures.least board c.requires.graph) in

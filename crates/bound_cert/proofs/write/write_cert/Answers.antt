@@ -25,7 +25,7 @@ after_potentials g c way = under_way_both _ _ _ _ _ (potentials_text c.args.cert
 
 after_choices : (g : Over) (c : In_ok-put_choices g) → Way c.args.cert.now c.args.slot (g.D.Desk.seen c.args.desk.now) (to_potentials c.args.cert.now) c.put_potentials.new.pending (g.D.Desk.seen c.put_potentials.new.desk)
     → Way c.args.cert.now c.args.slot (g.D.Desk.seen c.args.desk.now) (cert_text c.args.cert.now) c.put_choices.new.pending (g.D.Desk.seen c.put_choices.new.desk)
-after_choices g c way = under_way_both _ _ _ _ _ (choices_text c.args.cert.now) _ _ way (rw c.choices.ensures at c.in_ok-put_choices.ensures.ok)
+after_choices g c way = under_way_both _ _ _ _ _ (choices_text c.args.cert.now) _ _ way (rw c.listed_choices.ensures at c.in_ok-put_choices.ensures.ok)
 
 -- ---- the answers
 
@@ -60,7 +60,7 @@ returns-in_err-put_choices-clause-err g c =
     let at = goal.at.returns-in_err-put_choices-clause-err g c in
     let p = err_from_is_err_and c.from_residual-in_err-put_choices.result c.from_residual-in_err-put_choices.ensures.1 in
     let way = after_potentials g at.In_ok-put_potentials (after_lengths g at.In_ok-put_numbers-2 (after_weights g at.In_ok-put_numbers (after_header g at.In_ok-put_header))) in
-    rw p.1 (stopped_in_choices c.args.cert.now c.args.slot _ _ _ _ way (rw c.choices.ensures at c.in_err-put_choices.ensures.err))
+    rw p.1 (stopped_in_choices c.args.cert.now c.args.slot _ _ _ _ way (rw c.listed_choices.ensures at c.in_err-put_choices.ensures.err))
 
 pub returns-in_err-flush-clause-err : goal.returns-in_err-flush-clause-err
 returns-in_err-flush-clause-err g c =

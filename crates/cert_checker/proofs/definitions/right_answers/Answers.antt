@@ -1,9 +1,10 @@
-use Rattle.std.proofs.Common.{◌≤◌, [], ◌∷◌, refl, inr, arith, rules}
+use Rattle.std.proofs.Common.{◌≡◌, ◌≤◌, [], ◌∷◌, refl, inr, arith, rules}
 use Rattle.tdm_problem.specs.Roots.{root_of}
 use Rattle.tdm_problem.specs.Walk.{Links}
-use Rattle.tdm_problem.specs.Samples.{wire, pair, shared}
-use Rattle.bound_cert.specs.Samples.{wire_cert}
+use Rattle.tdm_problem.specs.Samples.{wire, pair, shared, star}
+use Rattle.bound_cert.specs.Samples.{star_cert, wire_cert}
 use Rattle.bound_cert.specs.Valid.{IsValid}
+use Rattle.bound_cert.proofs.OneBound.{one_bound, chosen_bound}
 use Rattle.cert_checker.proofs.definitions.right_answers.Goals as goal
 
 back : Links pair 0 1 0
@@ -14,7 +15,15 @@ gentle = search rules
 
 pub returns-clause-accepted : goal.returns-clause-accepted
 unfolding root_of
-returns-clause-accepted c = (gentle, refl)
+returns-clause-accepted c = (gentle, chosen_bound shared (wire_cert 1 3 0 3 (1 ∷ 1 ∷ 1 ∷ [])) refl)
+
+pub returns-clause-hop : goal.returns-clause-hop
+returns-clause-hop c = (search rules, chosen_bound star star_cert refl)
+
+pub returns-clause-other_bound : goal.returns-clause-other_bound
+returns-clause-other_bound c accepted =
+    let same : 2 ≡ 4 = one_bound star star_cert 2 4 accepted.1 (chosen_bound star star_cert refl) in
+    omega (arith, same)
 
 pub returns-clause-rejected : goal.returns-clause-rejected
 returns-clause-rejected c = record {

@@ -34,7 +34,7 @@ returns-clause-best c =
       | then-bound-best w ↦
           subst Kept (sym w.best-is)
           (IsBest-certified c.args.problem.now c.args.best.now.solution c.args.best.now.value c.args.best.now.certified found c.requires.best c.in_ok-bound.ensures.bound w.if-bound-best.true
-          c.in_ok-cert.ensures.within c.in_ok-cert.ensures.for_problem c.in_ok-cert.ensures.few c.in_ok-cert.ensures.valid lower)
+          c.in_ok-cert.ensures.within c.in_ok-cert.ensures.for_problem c.in_ok-cert.ensures.few c.in_ok-cert.ensures.valid c.in_ok-bound.ensures.is_bound lower)
       | else-bound-best w ↦ subst Kept (sym w.best-is) c.requires.best
     ]
 

@@ -21,8 +21,8 @@ returns-then-self-gt0-clause-said c = λ numbers after more taken.
     ∙ section-taken after (number_said LengthLimit most_length) (λ (ls : List ℕ). in_potentials after now.sizes now.header.potentials (record (so_far now) { lengths = ls }) now.header.potentials) now.left now.lengths.items c.push.new.self.items c.args.line c.args.fault numbers more c.in-Ok.length fits.some (c.in-Ok.ensures.said numbers taken) items
     ∙ ap (λ (r : Role). said_in r now.sizes now.header.potentials (record (so_far now) { lengths = c.push.new.self.items }) (now.left - 1) after more) (sym c.requires.role)
 
-pub returns-else-self-gt0-clause-said : goal.returns-else-self-gt0-clause-said
-returns-else-self-gt0-clause-said c = λ numbers after more taken.
+pub returns-in_ok-begin_potentials-in-Ok-clause-said : goal.returns-in_ok-begin_potentials-in-Ok-clause-said
+returns-in_ok-begin_potentials-in-Ok-clause-said c = λ numbers after more taken.
     let now = c.args.self.now in
     let line : Line = ended_line c.args.line c.args.fault numbers in
     let fits = subst (λ (r : Role). IsInRole r now.header.potentials (so_far now) now.left) c.requires.role c.requires.fine.in_role in
@@ -30,7 +30,7 @@ returns-else-self-gt0-clause-said c = λ numbers after more taken.
     ap (λ (r : Role). said_in r now.sizes now.header.potentials (so_far now) now.left after (line ∷ more)) c.requires.role
     ∙ section-taken after (number_said LengthLimit most_length) (λ (ls : List ℕ). in_potentials after now.sizes now.header.potentials (record (so_far now) { lengths = ls }) now.header.potentials) now.left now.lengths.items c.push.new.self.items c.args.line c.args.fault numbers more c.in-Ok.length fits.some (c.in-Ok.ensures.said numbers taken) items
     ∙ section-done after (number_said LengthLimit most_length) (λ (ls : List ℕ). in_potentials after now.sizes now.header.potentials (record (so_far now) { lengths = ls }) now.header.potentials) (now.left - 1) c.push.new.self.items more (omega (arith, c.if-self-gt0.false))
-    ∙ sym (c.begin_potentials.ensures.said after more)
+    ∙ sym (c.in_ok-begin_potentials-in-Ok.ensures.said after more)
 
 pub returns-in_ok-refuse-in-Err-clause-said : goal.returns-in_ok-refuse-in-Err-clause-said
 returns-in_ok-refuse-in-Err-clause-said c = λ numbers after more taken.

@@ -5,7 +5,7 @@ use Rattle.tdm_lines.specs.SoFar.{ended_line}
 use Rattle.bound_cert.specs.declared.state.Role.{Role}
 use Rattle.bound_cert.specs.CertFaults.{IsFaultOf}
 use Rattle.bound_cert.specs.CertReading.{potential_said}
-use Rattle.bound_cert.specs.Roles.{in_choices, said_in, so_far, IsInRole}
+use Rattle.bound_cert.specs.Roles.{past_potentials, said_in, so_far, IsInRole}
 use Rattle.bound_cert.proofs.RoleLaws.{section-refused, section-taken, section-done}
 use Rattle.bound_cert.proofs.state.CertState.potential_line.Goals as goal
 
@@ -16,19 +16,19 @@ returns-then-self-gt0-clause-said c = λ numbers after more taken.
     let fits = subst (λ (r : Role). IsInRole r now.header.potentials (so_far now) now.left) c.requires.role c.requires.fine.in_role in
     let items : c.push.new.self.items ≡ now.potentials.items ++ c.in-Ok.potential ∷ [] = search (rules, common_steps) in
     ap (λ (r : Role). said_in r now.sizes now.header.potentials (so_far now) now.left after (line ∷ more)) c.requires.role
-    ∙ section-taken after (potential_said now.sizes.fpgas) (λ (rows : List (List ℕ)). in_choices after now.sizes now.header.potentials (record (so_far now) { potentials = rows }) now.sizes.nets) now.left now.potentials.items c.push.new.self.items c.args.line c.args.fault numbers more c.in-Ok.potential fits.some (c.in-Ok.ensures.said numbers taken) items
+    ∙ section-taken after (potential_said now.sizes.fpgas) (λ (rows : List (List ℕ)). past_potentials after now.sizes now.header.potentials (record (so_far now) { potentials = rows })) now.left now.potentials.items c.push.new.self.items c.args.line c.args.fault numbers more c.in-Ok.potential fits.some (c.in-Ok.ensures.said numbers taken) items
     ∙ ap (λ (r : Role). said_in r now.sizes now.header.potentials (record (so_far now) { potentials = c.push.new.self.items }) (now.left - 1) after more) (sym c.requires.role)
 
-pub returns-else-self-gt0-clause-said : goal.returns-else-self-gt0-clause-said
-returns-else-self-gt0-clause-said c = λ numbers after more taken.
+pub returns-in_ok-begin_choices-in-Ok-clause-said : goal.returns-in_ok-begin_choices-in-Ok-clause-said
+returns-in_ok-begin_choices-in-Ok-clause-said c = λ numbers after more taken.
     let now = c.args.self.now in
     let line : Line = ended_line c.args.line c.args.fault numbers in
     let fits = subst (λ (r : Role). IsInRole r now.header.potentials (so_far now) now.left) c.requires.role c.requires.fine.in_role in
     let items : c.push.new.self.items ≡ now.potentials.items ++ c.in-Ok.potential ∷ [] = search (rules, common_steps) in
     ap (λ (r : Role). said_in r now.sizes now.header.potentials (so_far now) now.left after (line ∷ more)) c.requires.role
-    ∙ section-taken after (potential_said now.sizes.fpgas) (λ (rows : List (List ℕ)). in_choices after now.sizes now.header.potentials (record (so_far now) { potentials = rows }) now.sizes.nets) now.left now.potentials.items c.push.new.self.items c.args.line c.args.fault numbers more c.in-Ok.potential fits.some (c.in-Ok.ensures.said numbers taken) items
-    ∙ section-done after (potential_said now.sizes.fpgas) (λ (rows : List (List ℕ)). in_choices after now.sizes now.header.potentials (record (so_far now) { potentials = rows }) now.sizes.nets) (now.left - 1) c.push.new.self.items more (omega (arith, c.if-self-gt0.false))
-    ∙ sym (c.begin_choices.ensures.said after more)
+    ∙ section-taken after (potential_said now.sizes.fpgas) (λ (rows : List (List ℕ)). past_potentials after now.sizes now.header.potentials (record (so_far now) { potentials = rows })) now.left now.potentials.items c.push.new.self.items c.args.line c.args.fault numbers more c.in-Ok.potential fits.some (c.in-Ok.ensures.said numbers taken) items
+    ∙ section-done after (potential_said now.sizes.fpgas) (λ (rows : List (List ℕ)). past_potentials after now.sizes now.header.potentials (record (so_far now) { potentials = rows })) (now.left - 1) c.push.new.self.items more (omega (arith, c.if-self-gt0.false))
+    ∙ sym (c.in_ok-begin_choices-in-Ok.ensures.said after more)
 
 pub returns-in_ok-refuse-in-Err-clause-said : goal.returns-in_ok-refuse-in-Err-clause-said
 returns-in_ok-refuse-in-Err-clause-said c = λ numbers after more taken.
@@ -37,4 +37,4 @@ returns-in_ok-refuse-in-Err-clause-said c = λ numbers after more taken.
     let fits = subst (λ (r : Role). IsInRole r now.header.potentials (so_far now) now.left) c.requires.role c.requires.fine.in_role in
     c.in_ok-refuse-in-Err.ensures.said _ after more
     (subst (λ (r : Role). IsFaultOf c.in-Err.fault (said_in r now.sizes now.header.potentials (so_far now) now.left after (line ∷ more))) (sym c.requires.role)
-    (section-refused after (potential_said now.sizes.fpgas) (λ (rows : List (List ℕ)). in_choices after now.sizes now.header.potentials (record (so_far now) { potentials = rows }) now.sizes.nets) now.left now.potentials.items c.args.line c.args.fault numbers more c.in-Err.fault fits.some (c.in-Err.ensures.said numbers taken)))
+    (section-refused after (potential_said now.sizes.fpgas) (λ (rows : List (List ℕ)). past_potentials after now.sizes now.header.potentials (record (so_far now) { potentials = rows })) now.left now.potentials.items c.args.line c.args.fault numbers more c.in-Err.fault fits.some (c.in-Err.ensures.said numbers taken)))
