@@ -3,8 +3,8 @@ ghost use Rattle.std.specs.Prelude.{◌≡◌, ◌<◌, length, All};
 ghost use Rattle.net_groups.specs.Incidence.{IsNetGroups};
 
 use crate::numbers::{larger, within_32_bits};
+use flat_rows::FlatRows;
 use net_groups::Incidence;
-use tdm_problem::Trees;
 
 /// About the largest price there is.
 const TOP_PRICE: u64 = 1 << 30;
@@ -47,16 +47,16 @@ fn start_price(number: u64, factor: u64) -> u32 {
     within_32_bits((number.wrapping_mul(factor) >> 20).max(least))
 }
 
-/// The load of each wire: the sum of the prices of the nets whose tree has it.
-pub(crate) fn take_loads(loads: &mut [u64], trees: &Trees, prices: &[u32])
-    requires there { All (λ wires. All (λ e. e < length loads.old) wires) trees.now }
-    requires paired { length prices.now ≡ length trees.now }
+/// The load of each wire: the sum of the prices of the nets whose row has it.
+pub(crate) fn take_loads(loads: &mut [u64], rows: &FlatRows<u32>, prices: &[u32])
+    requires there { All (λ row. All (λ e. e < length loads.old) row) rows.now }
+    requires paired { length prices.now ≡ length rows.now }
 {
     for load in loads.iter_mut() {
         *load = 0;
     }
-    for n in 0..trees.nets() {
-        add_to_each(loads, trees.wires_of(n), u64::from(prices[n as usize]));
+    for n in 0..rows.rows() {
+        add_to_each(loads, rows.row(n), u64::from(prices[n]));
     }
 }
 

@@ -2,9 +2,9 @@
 ghost use Rattle.std.specs.Prelude.{◌≡◌, ◌<◌, length, All};
 
 use crate::numbers::within_32_bits;
-use crate::wire_rounding::{CLASSES, Costs, WireRounding};
+use crate::wire_rounding::{CLASSES, ClassCosts, Costs, WireRounding};
+use flat_rows::FlatRows;
 use std::alloc::{AllocError, Global};
-use tdm_problem::Trees;
 
 /// The most 64ths of the half of a ratio.
 const MOST_PARTS: u128 = (1 << 27) - 1;
@@ -13,22 +13,27 @@ const MOST_PARTS: u128 = (1 << 27) - 1;
 pub(crate) fn round_up(
     parts: &mut Vec<u32>,
     wires: &mut [WireRounding],
+    classes: &mut [ClassCosts],
     costs: &Costs,
-    trees: &Trees,
+    rows: &FlatRows<u32>,
     prices: &[u32],
     loads: &[u64],
 ) -> Result<(), AllocError>
-    requires there { All (λ row. All (λ e. e < length loads.now) row) trees.now }
+    requires there { All (λ row. All (λ e. e < length loads.now) row) rows.now }
     requires wires_paired { length wires.old ≡ length loads.now }
-    requires paired { length prices.now ≡ length trees.now }
+    requires classes_paired { length classes.old ≡ length loads.now }
+    requires paired { length prices.now ≡ length rows.now }
 {
     parts.clear();
     for wire in wires.iter_mut() {
         *wire = WireRounding::new();
     }
-    for n in 0..trees.nets() {
-        let inverse = (1 << 62) / u64::from(prices[n as usize]).max(1);
-        round_net_up(parts, wires, costs, trees.wires_of(n), loads, inverse)?;
+    for of_wire in classes.iter_mut() {
+        *of_wire = ClassCosts::new();
+    }
+    for n in 0..rows.rows() {
+        let inverse = (1 << 62) / u64::from(prices[n]).max(1);
+        round_net_up(parts, wires, classes, costs, rows.row(n), loads, inverse)?;
     }
     Ok(())
 }
@@ -37,6 +42,7 @@ pub(crate) fn round_up(
 fn round_net_up(
     parts: &mut Vec<u32>,
     wires: &mut [WireRounding],
+    classes: &mut [ClassCosts],
     costs: &Costs,
     row: &[u32],
     loads: &[u64],
@@ -44,22 +50,25 @@ fn round_net_up(
 ) -> Result<(), AllocError>
     requires there { All (λ e. e < length loads.now) row.now }
     requires wires_paired { length wires.old ≡ length loads.now }
+    requires classes_paired { length classes.old ≡ length loads.now }
 {
     for e in row {
         let place = *e as usize;
         let quotient = u128::from(loads[place]).wrapping_mul(u128::from(inverse)) >> 57;
         let count = quotient.min(MOST_PARTS) as u32;
-        wires[place].reckon(costs, count);
+        wires[place].reckon(&mut classes[place], costs, count);
         parts.push(count)?;
     }
     Ok(())
 }
 
 /// Lowers the classes of all wires. Answers false where some wire is too full for that.
-pub(crate) fn lower_all_classes(wires: &mut [WireRounding]) -> bool {
+pub(crate) fn lower_all_classes(wires: &mut [WireRounding], classes: &[ClassCosts]) -> bool
+    requires { length classes.now ≡ length wires.old }
+{
     let mut all_fit = true;
-    for wire in wires.iter_mut() {
-        if !wire.lower_classes() {
+    for e in 0..wires.len() {
+        if !wires[e].lower_classes(&classes[e]) {
             all_fit = false;
         }
     }
@@ -72,16 +81,16 @@ pub(crate) fn round_down_some(
     values: &mut [u32],
     wires: &mut [WireRounding],
     costs: &Costs,
-    trees: &Trees,
+    rows: &FlatRows<u32>,
     parts: &[u32],
 ) -> Result<(), AllocError>
-    requires there { All (λ row. All (λ e. e < length wires.old) row) trees.now }
-    requires paired { length values.old ≡ length trees.now }
+    requires there { All (λ row. All (λ e. e < length wires.old) row) rows.now }
+    requires paired { length values.old ≡ length rows.now }
 {
     halves.clear();
-    for n in 0..trees.nets() {
-        let sum = round_net_down(halves, wires, costs, trees.wires_of(n), parts)?;
-        values[n as usize] = within_32_bits(sum);
+    for n in 0..rows.rows() {
+        let sum = round_net_down(halves, wires, costs, rows.row(n), parts)?;
+        values[n] = within_32_bits(sum);
     }
     Ok(())
 }

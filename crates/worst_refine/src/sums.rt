@@ -2,22 +2,23 @@
 ghost use Rattle.std.specs.Prelude.{◌≡◌, ◌<◌, length, All};
 
 use crate::numbers::{larger, within_32_bits};
-use tdm_problem::{Problem, Trees};
+use flat_rows::FlatRows;
+use tdm_problem::Problem;
 
 /// While ratios are not yet whole numbers they count in so many parts.
 pub(crate) const PARTS: u64 = 16;
 
 /// The value of each net at these prices, in parts: the sum over its wires of the load over its price, each at least 2.
-pub(crate) fn value_nets(values: &mut [u32], trees: &Trees, prices: &[u32], loads: &[u64])
-    requires there { All (λ wires. All (λ e. e < length loads.now) wires) trees.now }
-    requires paired { length prices.now ≡ length trees.now }
-    requires valued { length values.old ≡ length trees.now }
+pub(crate) fn value_nets(values: &mut [u32], rows: &FlatRows<u32>, prices: &[u32], loads: &[u64])
+    requires there { All (λ row. All (λ e. e < length loads.now) row) rows.now }
+    requires paired { length prices.now ≡ length rows.now }
+    requires valued { length values.old ≡ length rows.now }
 {
-    for n in 0..trees.nets() {
-        let price = u64::from(prices[n as usize]).max(1);
-        let sum = sum_of_loads(loads, trees.wires_of(n), 2 * price);
+    for n in 0..rows.rows() {
+        let price = u64::from(prices[n]).max(1);
+        let sum = sum_of_loads(loads, rows.row(n), 2 * price);
         let parts = sum.min(u64::MAX / PARTS) * PARTS / price;
-        values[n as usize] = within_32_bits(parts);
+        values[n] = within_32_bits(parts);
     }
 }
 
@@ -27,7 +28,7 @@ fn sum_of_loads(loads: &[u64], wires: &[u32], least: u64) -> u64
 {
     let mut sum = 0u64;
     for e in wires {
-        sum = sum.saturating_add(loads[*e as usize].max(least));
+        sum = sum.wrapping_add(loads[*e as usize].max(least));
     }
     sum
 }

@@ -11,10 +11,11 @@ ghost use Rattle.worst_refine.specs.TraderRoom.{IsTraderFor};
 use crate::prices::{reprice, start_prices, take_loads};
 use crate::rounding::{lower_all_classes, round_down_some, round_up};
 use crate::sums::{PARTS, sum_groups, value_nets};
-use crate::wire_rounding::{Costs, WireRounding};
+use crate::wire_rounding::{ClassCosts, Costs, WireRounding};
+use flat_rows::FlatRows;
 use net_groups::Incidence;
 use std::alloc::{AllocError, Global};
-use tdm_problem::{Problem, Trees};
+use tdm_problem::Problem;
 
 /// How often the prices are rounded at most.
 const ROUNDINGS: u32 = 5;
@@ -27,6 +28,7 @@ pub(crate) struct Trader {
     net_values: Vec<u32>,
     group_sums: Vec<u32>,
     wires: Vec<WireRounding>,
+    classes: Vec<ClassCosts>,
     costs: Costs,
     parts: Vec<u32>,
     halves: Vec<u32>,
@@ -52,6 +54,7 @@ impl Trader {
             net_values: vec![in alloc; 0u32; nets]?,
             group_sums: vec![in alloc; 0u32; problem.groups() as usize]?,
             wires: vec![in alloc; WireRounding::new(); wires]?,
+            classes: vec![in alloc; ClassCosts::new(); wires]?,
             costs: Costs::new(alloc)?,
             parts: Vec::new(alloc),
             halves: Vec::new(alloc),
@@ -59,27 +62,28 @@ impl Trader {
         })
     }
 
-    /// The halves of even ratios, use by use, by which the largest group sum may be below `best`; none where the trade saw that
-    /// it would not be. All prices change at most `turns` times, the last four of them between roundings.
+    /// The halves of even ratios, use by use of the rows, by which the largest group sum may be below `best`; none where the trade
+    /// saw that it would not be. The rows are the trees of the nets. All prices change at most `turns` times, the last four of
+    /// them between roundings.
     pub(crate) fn propose(
         mut self,
         problem: &Problem,
         incidence: &Incidence,
-        trees: &Trees,
+        rows: &FlatRows<u32>,
         best: u64,
         turns: u32,
     ) -> Result<Option<Vec<u32>>, AllocError>
         requires room { IsTraderFor problem.now self }
         requires incidence { IsIncidenceOf problem.now incidence.now }
-        requires trees_for { AreTreesFor problem.now trees.now }
+        requires trees_for { AreTreesFor problem.now rows.now }
     {
         let best = best.min(u64::MAX / PARTS);
         let goal = (best - best / 4096) * PARTS;
         let roundings = turns.min(ROUNDINGS);
-        if self.take_turns(problem, incidence, trees, goal, turns - roundings + 1) > goal {
+        if self.take_turns(problem, incidence, rows, goal, turns - roundings + 1) > goal {
             return Ok(None);
         }
-        if self.round_repeatedly(problem, incidence, trees, best, roundings)? >= best {
+        if self.round_repeatedly(problem, incidence, rows, best, roundings)? >= best {
             return Ok(None);
         }
         Ok(Some(self.best_halves))
@@ -91,35 +95,35 @@ impl Trader {
         &mut self,
         problem: &Problem,
         incidence: &Incidence,
-        trees: &Trees,
+        rows: &FlatRows<u32>,
         goal: u64,
         turns: u32,
     ) -> u64
         requires room { IsTraderFor problem.now self.old }
         requires incidence { IsIncidenceOf problem.now incidence.now }
-        requires trees_for { AreTreesFor problem.now trees.now }
+        requires trees_for { AreTreesFor problem.now rows.now }
         ensures { IsTraderFor problem.now self.new }
     {
         let mut last = u64::MAX;
         for turn in 0..turns {
-            let worst = self.sum_at_prices(problem, trees);
+            let worst = self.sum_at_prices(problem, rows);
             if worst > last - (last >> 13) || (turn >= 2 && is_out_of_reach(worst, last, goal)) {
                 return worst;
             }
             last = worst;
             reprice(&mut self.prices, incidence, &self.group_sums, worst);
         }
-        self.sum_at_prices(problem, trees)
+        self.sum_at_prices(problem, rows)
     }
 
     /// The largest group sum at the prices, in parts.
-    fn sum_at_prices(&mut self, problem: &Problem, trees: &Trees) -> u64
+    fn sum_at_prices(&mut self, problem: &Problem, rows: &FlatRows<u32>) -> u64
         requires room { IsTraderFor problem.now self.old }
-        requires trees_for { AreTreesFor problem.now trees.now }
+        requires trees_for { AreTreesFor problem.now rows.now }
         ensures { IsTraderFor problem.now self.new }
     {
-        take_loads(&mut self.loads, trees, &self.prices);
-        value_nets(&mut self.net_values, trees, &self.prices, &self.loads);
+        take_loads(&mut self.loads, rows, &self.prices);
+        value_nets(&mut self.net_values, rows, &self.prices, &self.loads);
         sum_groups(&mut self.group_sums, problem, &self.net_values)
     }
 
@@ -129,21 +133,21 @@ impl Trader {
         &mut self,
         problem: &Problem,
         incidence: &Incidence,
-        trees: &Trees,
+        rows: &FlatRows<u32>,
         best: u64,
         roundings: u32,
     ) -> Result<u64, AllocError>
         requires room { IsTraderFor problem.now self.old }
         requires incidence { IsIncidenceOf problem.now incidence.now }
-        requires trees_for { AreTreesFor problem.now trees.now }
+        requires trees_for { AreTreesFor problem.now rows.now }
     {
         let (mut found, mut last) = (u64::MAX, u64::MAX);
         for k in 0..roundings {
             if k > 0 {
                 reprice(&mut self.prices, incidence, &self.group_sums, last);
-                take_loads(&mut self.loads, trees, &self.prices);
+                take_loads(&mut self.loads, rows, &self.prices);
             }
-            if !self.round(problem, trees)? {
+            if !self.round(problem, rows)? {
                 return Ok(found);
             }
             let sum = sum_groups(&mut self.group_sums, problem, &self.net_values);
@@ -160,20 +164,21 @@ impl Trader {
     }
 
     /// Rounds the ratios at the prices to even numbers. Answers false where they do not fit the wires.
-    fn round(&mut self, problem: &Problem, trees: &Trees) -> Result<bool, AllocError>
+    fn round(&mut self, problem: &Problem, rows: &FlatRows<u32>) -> Result<bool, AllocError>
         requires room { IsTraderFor problem.now self.old }
-        requires trees_for { AreTreesFor problem.now trees.now }
+        requires trees_for { AreTreesFor problem.now rows.now }
         ensures { OnOk result (IsTraderFor problem.now self.new) }
     {
         round_up(
             &mut self.parts,
             &mut self.wires,
+            &mut self.classes,
             &self.costs,
-            trees,
+            rows,
             &self.prices,
             &self.loads,
         )?;
-        if !lower_all_classes(&mut self.wires) {
+        if !lower_all_classes(&mut self.wires, &self.classes) {
             return Ok(false);
         }
         round_down_some(
@@ -181,7 +186,7 @@ impl Trader {
             &mut self.net_values,
             &mut self.wires,
             &self.costs,
-            trees,
+            rows,
             &self.parts,
         )?;
         Ok(true)

@@ -9,6 +9,7 @@ ghost use Rattle.worst_refine.specs.Traded.{HasSmallRatios, IsBetter, IsTraded};
 
 use crate::proposed::checked;
 use crate::trader::Trader;
+use flat_rows::FlatRows;
 use net_groups::Incidence;
 use solution_eval::value;
 use std::alloc::{AllocError, Global};
@@ -89,11 +90,23 @@ fn better(
     ensures { IfOk result (λ found. IfSome found (IsBetter problem.now trees.now best)) }
 {
     let trader = Trader::new(alloc, problem, s)?;
+    let rows = rows_of(alloc, trees)?;
     let goal = best.min(u128::from(u64::MAX)) as u64;
-    match trader.propose(problem, incidence, trees, goal, turns)? {
+    match trader.propose(problem, incidence, &rows, goal, turns)? {
         Some(halves) => checked(alloc, problem, trees, &halves, best),
         None => Ok(None),
     }
+}
+
+/// The wires of each net, one net after another without gaps, since a trade goes over them many times.
+fn rows_of(alloc: Global, trees: &Trees) -> Result<FlatRows<u32>, AllocError>
+    ensures { IfOk result (λ rows. rows ≡ trees.now) }
+{
+    let mut rows = FlatRows::new(alloc);
+    for n in 0..trees.nets() {
+        rows.push_row(trees.wires_of(n))?;
+    }
+    Ok(rows)
 }
 
 /// The wires of each net's uses.

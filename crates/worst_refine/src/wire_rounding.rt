@@ -39,13 +39,26 @@ fn cost_of(half: u32) -> u64 {
     (u64::MAX / ratio).saturating_add(1)
 }
 
-/// What the uses of a wire cost at the even ratios above, and what the even ratios below would cost more, class by class.
+/// What the even ratios below would cost a wire more than those above, class by class.
+#[derive(Clone, Copy)]
+pub(crate) struct ClassCosts {
+    more: [u64; 64],
+}
+
+impl ClassCosts {
+    /// No uses yet.
+    pub(crate) fn new() -> ClassCosts {
+        ClassCosts { more: [0; 64] }
+    }
+}
+
+/// What the uses of a wire cost at the even ratios above, and then how many classes are lowered and what room is left. It
+/// stands apart from [`ClassCosts`], since the second sweep needs it alone.
 #[derive(Clone, Copy)]
 pub(crate) struct WireRounding {
     spent: u128,
-    more: [u64; 64],
-    lowered: u32,
     room: u64,
+    lowered: u32,
 }
 
 impl WireRounding {
@@ -53,34 +66,33 @@ impl WireRounding {
     pub(crate) fn new() -> WireRounding {
         WireRounding {
             spent: 0,
-            more: [0; 64],
-            lowered: 0,
             room: 0,
+            lowered: 0,
         }
     }
 
     /// Reckons a use whose half of the ratio is so many 64ths, at the even ratio above.
-    pub(crate) fn reckon(&mut self, costs: &Costs, parts: u32) {
+    pub(crate) fn reckon(&mut self, classes: &mut ClassCosts, costs: &Costs, parts: u32) {
         let half = parts / CLASSES;
         let class = (parts % CLASSES) as usize;
         let cost = costs.of(half.saturating_add(1));
-        self.spent = self.spent.saturating_add(u128::from(cost));
+        self.spent = self.spent.wrapping_add(u128::from(cost));
         if half > 0 && half < MOST_LOWERED {
             let more = costs.of(half).saturating_sub(cost);
-            self.more[class] = self.more[class].saturating_add(more);
+            classes.more[class] = classes.more[class].saturating_add(more);
         }
     }
 
     /// Lowers whole classes to the even ratio below, the least parts first, as far as there is room. Answers false where
     /// the even ratios above do not fit the wire.
-    pub(crate) fn lower_classes(&mut self) -> bool {
+    pub(crate) fn lower_classes(&mut self, classes: &ClassCosts) -> bool {
         if self.spent > WHOLE {
             return false;
         }
         self.room = (WHOLE - self.spent).min(u128::from(u64::MAX)) as u64;
         self.lowered = 0;
         for class in 0..64u32 {
-            let more = self.more[class as usize];
+            let more = classes.more[class as usize];
             if more > self.room {
                 return true;
             }
