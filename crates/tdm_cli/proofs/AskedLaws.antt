@@ -11,6 +11,7 @@ use Rattle.solution_eval.specs.declared.judgement.Verdict.{Verdict}
 use Rattle.solution_eval.specs.declared.judgement.Verdict.TheVariants.{Legal, NotJoined, BadRatio, Overfull}
 use Rattle.solution_eval.specs.Verdict.{IsVerdict, SaysLegal}
 use Rattle.tdm_problem.specs.Legal.{IsLegal, AllConnectable}
+use Rattle.board_generator.specs.Generated.{generated}
 use Rattle.bound_cert.specs.Certificate.{Cert}
 use Rattle.cert_checker.specs.declared.answer.CheckAnswer.{CheckAnswer}
 use Rattle.cert_checker.specs.declared.answer.CheckAnswer.TheVariants.{Accepted, Rejected}
@@ -21,9 +22,9 @@ use Rattle.command_run.specs.Inputs.{TextKind, content_of, contents_in, FromText
 use Rattle.tdm_cli.specs.declared.status.Status.{Status}
 use Rattle.tdm_cli.specs.declared.status.Status.TheVariants as status
 use Rattle.tdm_cli.specs.Kinds.{faults, boards, solutions, certificates}
-use Rattle.tdm_cli.specs.Request.{Request, route, eval, check, nothing, inputs_of}
-use Rattle.tdm_cli.specs.Outcomes.{Routes, is_unconnectable, is_over_limit, is_routed, status_of_verdict, Judges, status_of_answer, Checks, CallsFor}
-use Rattle.tdm_cli.specs.Asked.{SaidFor, FileFor, SomeUnconnectable, RoutingFor, JudgingFor, CheckingFor, StatusFor}
+use Rattle.tdm_cli.specs.Request.{Request, route, eval, check, gen, demo, nothing, inputs_of}
+use Rattle.tdm_cli.specs.Outcomes.{Routes, is_unconnectable, is_over_limit, is_routed, status_of_verdict, Judges, status_of_answer, Checks, Generates, Demonstrates, is_too_large, is_shown, CallsFor}
+use Rattle.tdm_cli.specs.Asked.{SaidFor, FileFor, SomeUnconnectable, RoutingFor, JudgingFor, CheckingFor, ShowingFor, StatusFor}
 
 -- ---- each outcome that is called for has the status that the files call for
 
@@ -36,7 +37,7 @@ module _ {V R : Type 0} (slot : InSlot) (kind : TextKind Status V R) (Then : V �
   file-for None outcome is = ap (λ (o : Outcome Status). o.status) is
   file-for (Some bytes) outcome is = said-for (kind.says bytes) outcome is
 
-first-of : (xs : List ℕ) → 0 < length xs → (x : ℕ) × Contains xs x
+pub first-of : (xs : List ℕ) → 0 < length xs → (x : ℕ) × Contains xs x
 first-of [] h = absurd (omega arith)
 first-of (x ∷ xs) h = (x, (0, omega arith, refl))
 
@@ -64,6 +65,10 @@ checking-for board cert outcome checks = subst (λ (o : Outcome Status). Checkin
     by (Accepted bound) right = right.0
     by (Rejected pair) right = first_not_valid board cert pair right
 
+showing-for : (fpgas nets groups : ℕ) (outcome : Outcome Status) → Demonstrates fpgas nets groups outcome → ShowingFor (generated fpgas nets groups) outcome.status
+showing-for fpgas nets groups outcome (is_too_large over is) = subst (λ (o : Outcome Status). ShowingFor (generated fpgas nets groups) o.status) (sym is) over
+showing-for fpgas nets groups outcome (is_shown routing cert improved is) = subst (λ (o : Outcome Status). ShowingFor (generated fpgas nets groups) o.status) (sym is) improved.within
+
 pub status-for : (request : Request) (files : Files) (outcome : Outcome Status) → CallsFor request (contents_in files (inputs_of request)) outcome → StatusFor request files outcome.status
 status-for (route board solution cert rounds) files outcome calls =
     file-for In0 boards (λ problem. Routes problem rounds) RoutingFor (λ problem o is. routing-for problem rounds o is) (get files board) outcome calls
@@ -73,6 +78,8 @@ status-for (eval board solution) files outcome calls =
 status-for (check board cert) files outcome calls =
     file-for In0 boards _ (λ problem. FileFor (certificates problem) (CheckingFor problem) (get files cert))
     (λ problem o is. file-for In1 (certificates problem) (λ proof. Checks problem proof) (CheckingFor problem) (checking-for problem) (get files cert) o is) (get files board) outcome calls
+status-for (gen fpgas nets groups board) files outcome calls = ap (λ (o : Outcome Status). o.status) calls.is
+status-for (demo fpgas nets groups solution cert) files outcome calls = showing-for fpgas nets groups outcome calls
 status-for nothing files outcome calls = ap (λ (o : Outcome Status). o.status) calls
 
 -- ---- there is one such status
@@ -126,10 +133,21 @@ checking-one board cert status.CertRejected status.CertRejected h k = refl
 checking-one board cert status.CertRejected _ h k = absurd k
 checking-one board cert _ t h k = absurd h
 
+showing-one : (board : Board) → OneStatus (ShowingFor board)
+showing-one board status.UseLimit status.UseLimit h k = refl
+showing-one board status.UseLimit status.Ok h k = let most = k h.trees h.base in let high = h.over in absurd (omega (arith, most, high))
+showing-one board status.UseLimit _ h k = absurd k
+showing-one board status.Ok status.UseLimit h k = let most = h k.trees k.base in let high = k.over in absurd (omega (arith, most, high))
+showing-one board status.Ok status.Ok h k = refl
+showing-one board status.Ok _ h k = absurd k
+showing-one board _ t h k = absurd h
+
 pub status-one : (request : Request) (files : Files) → OneStatus (StatusFor request files)
 status-one (route board solution cert rounds) files = file-one boards RoutingFor routing-one (get files board)
 status-one (eval board solution) files =
     file-one boards _ (λ problem. file-one (solutions problem) (JudgingFor problem) (judging-one problem) (get files solution)) (get files board)
 status-one (check board cert) files =
     file-one boards _ (λ problem. file-one (certificates problem) (CheckingFor problem) (checking-one problem) (get files cert)) (get files board)
+status-one (gen fpgas nets groups board) files = one-of status.Ok
+status-one (demo fpgas nets groups solution cert) files = showing-one (generated fpgas nets groups)
 status-one nothing files = one-of status.Usage

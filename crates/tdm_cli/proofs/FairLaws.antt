@@ -18,9 +18,9 @@ use Rattle.command_run.proofs.StatusLaws.{by-input, by-none}
 use Rattle.tdm_cli.specs.declared.status.Status.{Status}
 use Rattle.tdm_cli.specs.declared.status.Status.TheVariants as status
 use Rattle.tdm_cli.specs.Kinds.{faults, boards, solutions, certificates}
-use Rattle.tdm_cli.specs.Request.{Request, route, eval, check, nothing, inputs_of, outputs_of}
+use Rattle.tdm_cli.specs.Request.{Request, route, eval, check, gen, demo, nothing, inputs_of, outputs_of}
 use Rattle.tdm_cli.specs.Reports.{verdict_report, answer_report}
-use Rattle.tdm_cli.specs.Outcomes.{comes_to, refused_words, Routes, is_unconnectable, is_over_limit, is_routed, status_of_verdict, Judges, status_of_answer, Checks, JudgesNext, ChecksNext, CallsFor}
+use Rattle.tdm_cli.specs.Outcomes.{comes_to, refused_words, Routes, is_unconnectable, is_over_limit, is_routed, status_of_verdict, Judges, status_of_answer, Checks, Generates, Demonstrates, is_too_large, is_shown, JudgesNext, ChecksNext, CallsFor}
 
 -- the status shows no fault of the outside, nor want of memory
 abbrev pub IsOwn : Status → Type 0
@@ -94,6 +94,32 @@ checks-fair board cert problem proof outcome checks = subst (IsFair (check board
     by (Accepted bound) = silent (check board cert) 2 status.Ok _ (omega arith) (λ e. omega arith) tt (λ e. cc) (λ e. refl)
     by (Rejected pair) = silent (check board cert) 2 status.CertRejected _ (omega arith) (λ e. omega arith) tt (λ e. cc) (λ e. refl)
 
+generates-fair : (fpgas nets groups : ℕ) (board : Bytes) (outcome : Outcome Status) → Generates fpgas nets groups outcome → IsFair (gen fpgas nets groups board) outcome
+generates-fair fpgas nets groups board outcome generates =
+    subst (IsFair (gen fpgas nets groups board)) (sym generates.is) (inr (record {
+      readable = refl;
+      opened = omega arith;
+      reached = λ e. omega arith;
+      own = tt;
+      usage = λ e. cc;
+      silent = inl refl;
+      written = λ e. refl;
+    }))
+
+demonstrates-fair : (fpgas nets groups : ℕ) (solution cert : Bytes) (outcome : Outcome Status) → Demonstrates fpgas nets groups outcome → IsFair (demo fpgas nets groups solution cert) outcome
+demonstrates-fair fpgas nets groups solution cert outcome (is_too_large over is) =
+    subst (IsFair (demo fpgas nets groups solution cert)) (sym is) (silent (demo fpgas nets groups solution cert) 0 status.UseLimit _ (omega arith) (λ e. cc) tt (λ e. cc) (λ e. cc))
+demonstrates-fair fpgas nets groups solution cert outcome (is_shown routing proof improved is) =
+    subst (IsFair (demo fpgas nets groups solution cert)) (sym is) (inr (record {
+      readable = refl;
+      opened = omega arith;
+      reached = λ e. omega arith;
+      own = tt;
+      usage = λ e. cc;
+      silent = inl refl;
+      written = λ e. refl;
+    }))
+
 -- what an input decides by itself is fair of every request that has it
 module _ (request : Request) (slot : InSlot) (near : place slot ≤ length (inputs_of request)) where
   missing-fair : IsFair request (missing faults slot)
@@ -130,4 +156,6 @@ fair (check board cert) = by-input faults In0 boards ChecksNext (λ contents out
         (λ rest. missing-fair (check board cert) In1 (omega arith)) (λ rest. unread-fair (check board cert) In1 (omega arith))
         (λ bytes refusal rest says. refused-fair (check board cert) In1 (omega arith) status.CertRefused _ tt (λ e. cc) (λ e. cc))
         (λ bytes proof rest outcome says then. by-none (IsFair (check board cert)) (Checks problem proof) (checks-fair board cert problem proof) rest outcome then)
+fair (gen fpgas nets groups board) = by-none (IsFair (gen fpgas nets groups board)) (Generates fpgas nets groups) (generates-fair fpgas nets groups board)
+fair (demo fpgas nets groups solution cert) = by-none (IsFair (demo fpgas nets groups solution cert)) (Demonstrates fpgas nets groups) (demonstrates-fair fpgas nets groups solution cert)
 fair nothing = by-none (IsFair nothing) (λ outcome. outcome ≡ refused_words) (λ outcome is. subst (IsFair nothing) (sym is) (silent nothing 0 status.Usage _ (omega arith) (λ e. omega arith) tt (λ e. tt) (λ e. cc)))

@@ -10,6 +10,7 @@ pub mod RunningLaws
 mod TextLaws
 mod FairLaws
 mod AskedLaws
+mod DemoLaws
 mod EndedLaws
 mod SlotLaws
 mod ReadOutLaws

@@ -18,8 +18,8 @@ use Rattle.command_run.proofs.StatusLaws.{by-input}
 use Rattle.tdm_cli.specs.declared.status.Status.{Status}
 use Rattle.tdm_cli.specs.declared.status.Status.TheVariants as status
 use Rattle.tdm_cli.specs.Kinds.{faults, boards, solutions, certificates, board_input, second_input}
-use Rattle.tdm_cli.specs.Request.{Request, route, eval, check, nothing, inputs_of, outputs_of}
-use Rattle.tdm_cli.specs.Outcomes.{Routes, Judges, Checks, JudgesNext, ChecksNext, CallsFor, refused_words}
+use Rattle.tdm_cli.specs.Request.{Request, route, eval, check, gen, demo, nothing, inputs_of, outputs_of}
+use Rattle.tdm_cli.specs.Outcomes.{Routes, Judges, Checks, Generates, Demonstrates, JudgesNext, ChecksNext, CallsFor, refused_words}
 use Rattle.tdm_cli.specs.Ended.{IsReadOut, AreReadOut}
 use Rattle.tdm_cli.proofs.TextLaws.{within-limit}
 use Rattle.tdm_cli.proofs.FairLaws.{IsDecided}
@@ -86,12 +86,16 @@ short (check board cert) = by-input faults In0 boards ChecksNext (IsShort (board
     next problem = by-input faults In1 (certificates problem) (λ proof. ByNone (Checks problem proof)) (IsShort (second_input cert ∷ []))
         (λ rest e. cc) (λ rest e. cc) (λ bytes refusal rest says e. cc)
         (λ bytes proof rest outcome says then e. (within-limit (2 ^ 30) (length bytes) _ _ proof says, none-short (Checks problem proof) rest outcome then e))
+short (gen fpgas nets groups board) = none-short (Generates fpgas nets groups)
+short (demo fpgas nets groups solution cert) = none-short (Demonstrates fpgas nets groups)
 short nothing = none-short (λ outcome. outcome ≡ refused_words)
 
 near : (request : Request) (opened : ℕ) → length (inputs_of request) ≤ opened → AreNear opened (inputs_of request)
 near (route board solution cert rounds) opened all = (omega (arith, all), tt)
 near (eval board solution) opened all = (omega (arith, all), (omega (arith, all), tt))
 near (check board cert) opened all = (omega (arith, all), (omega (arith, all), tt))
+near (gen fpgas nets groups board) opened all = tt
+near (demo fpgas nets groups solution cert) opened all = tt
 near nothing opened all = tt
 
 pub run-read : {D : Type 0} (counts : D → Counts) (steady : D → Type 0) (seen : D → Seen) (request : Request) (before after : D) (answer : Status) → RunEnds counts steady seen faults (inputs_of request) (outputs_of request) (CallsFor request) before after answer → answer ≡ status.Ok → AreReadOut (seen after) (inputs_of request)

@@ -10,16 +10,22 @@ use Rattle.tdm_desk.specs.Counts.{Counts}
 use Rattle.tdm_problem.specs.Board.{Board}
 use Rattle.tdm_problem.specs.Routing.{Routing}
 use Rattle.tdm_problem.specs.Legal.{IsLegal}
+use Rattle.tdm_problem.specs.Value.{value_of}
 use Rattle.contest_input.specs.BoardText.{board_of}
+use Rattle.board_generator.specs.Generated.{generated}
 use Rattle.contest_input.proofs.Accepted.{accepted-board}
+use Rattle.contest_input.proofs.ReadsBack.{text_reads_back as board_text_reads_back}
 use Rattle.solution_text.proofs.ReadsBack.{text_reads_back}
 use Rattle.solution_text.proofs.Size.{never_too_long}
 use Rattle.solution_text.specs.Reading.{solution_of}
+use Rattle.solution_text.specs.Text.{solution_text}
 use Rattle.solution_eval.specs.declared.judgement.Verdict.{Verdict}
 use Rattle.solution_eval.specs.declared.judgement.Verdict.TheVariants.{Legal, NotJoined, BadRatio, Overfull}
 use Rattle.solution_eval.specs.Verdict.{IsVerdict, SaysLegal}
 use Rattle.bound_cert.specs.Certificate.{Cert}
 use Rattle.bound_cert.specs.CertReading.{cert_of}
+use Rattle.bound_cert.specs.CertText.{cert_text}
+use Rattle.bound_cert.specs.Bound.{bound_of}
 use Rattle.bound_cert.proofs.Accepted.{accepted-cert}
 use Rattle.bound_cert.proofs.DualBound.{bound-le_value}
 use Rattle.bound_cert.proofs.CertReadsBack.{text_reads_back as cert_text_reads_back}
@@ -34,11 +40,12 @@ use Rattle.command_run.specs.Ends.{RunEnds}
 use Rattle.tdm_cli.specs.declared.status.Status.{Status}
 use Rattle.tdm_cli.specs.declared.status.Status.TheVariants as status
 use Rattle.tdm_cli.specs.Kinds.{faults, boards, solutions, certificates}
-use Rattle.tdm_cli.specs.Request.{Request, route, eval, check, nothing, inputs_of, outputs_of}
-use Rattle.tdm_cli.specs.Reports.{verdict_report, answer_report}
-use Rattle.tdm_cli.specs.Outcomes.{comes_to, Routes, is_unconnectable, is_over_limit, is_routed, status_of_verdict, Judges, status_of_answer, Checks, CallsFor}
+use Rattle.tdm_cli.specs.Request.{Request, route, eval, check, gen, demo, nothing, inputs_of, outputs_of}
+use Rattle.tdm_cli.specs.Reports.{route_report, demo_report, verdict_report, answer_report}
+use Rattle.tdm_cli.specs.Outcomes.{comes_to, Routes, is_unconnectable, is_over_limit, is_routed, status_of_verdict, Judges, status_of_answer, Checks, Generates, Demonstrates, is_too_large, is_shown, CallsFor}
 use Rattle.tdm_cli.specs.Asked.{IsOutsideFault}
-use Rattle.tdm_cli.specs.Promises.{IsRouted, IsJudged, IsBounded, IsRejected, IsWorth, BoundsHold}
+use Rattle.tdm_cli.specs.Improved.{IsImproved}
+use Rattle.tdm_cli.specs.Promises.{IsWritten, IsRouted, IsJudged, IsBounded, IsRejected, IsWorth, BoundsHold}
 use Rattle.tdm_cli.proofs.EndedLaws.{ended, told-calls}
 
 -- the bound of a certificate that is accepted for a board is below the value of each legal solution
@@ -66,15 +73,14 @@ module _ (files : Files) (before after : Seen) (told : files_of before ≡ Some 
   left-said : (names : List Name) (outcome it : Outcome Status) → Leaves before after names outcome.texts outcome.report → outcome ≡ it → said_of after ≡ option_map (λ s. s ++ it.report) (said_of before)
   left-said names outcome it left is = left.said ∙ ap (λ (o : Outcome Status). option_map (λ s. s ++ o.report) (said_of before)) is
 
-  routed : (name solution cert : Name) (rounds : ℕ) (outcome : Outcome Status) → Leaves before after (solution ∷ cert ∷ []) outcome.texts outcome.report
-      → (bytes : Bytes) (board : Board) → get files name ≡ Some bytes → board_of bytes ≡ Ok board → Routes board rounds outcome → IsWorth (route name solution cert rounds) files before after outcome.status
-  routed name solution cert rounds outcome left bytes board found says (is_unconnectable nets are some is) = subst (λ (o : Outcome Status). IsWorth (route name solution cert rounds) files before after o.status) (sym is) tt
-  routed name solution cert rounds outcome left bytes board found says (is_over_limit over is) = subst (λ (o : Outcome Status). IsWorth (route name solution cert rounds) files before after o.status) (sym is) tt
-  routed name solution cert rounds outcome left bytes board found says (is_routed routing proof improved is) =
+  -- a solution and a certificate that were found for a board are written
+  found-written : (board : Board) (solution cert : Name) (rounds : ℕ) (opened : ℕ) (report : (value bound : ℕ) → Bytes) (outcome : Outcome Status) → Leaves before after (solution ∷ cert ∷ []) outcome.texts outcome.report
+      → (routing : Routing) (proof : Cert) → IsImproved board rounds routing proof
+      → outcome ≡ comes_to opened status.Ok (report (value_of board routing) (bound_of board proof)) (solution_text routing ∷ cert_text proof ∷ [])
+      → IsWritten board files solution cert rounds report before after
+  found-written board solution cert rounds opened report outcome left routing proof improved is =
       let may = improved.may_be_written in
-      subst (λ (o : Outcome Status). IsWorth (route name solution cert rounds) files before after o.status) (sym is) (record {
-        board = board;
-        described = (bytes, found, says);
+      record {
         routing = routing;
         legal = may.legal;
         minimal = may.minimal;
@@ -94,7 +100,32 @@ module _ (files : Files) (before after : Seen) (told : files_of before ≡ Some 
             let short = cert_never_too_long board proof may.sayable.limits may.within may.cert_for may.cert_few in
             cert_text_reads_back board proof may.within may.cert_for short;
         told = left-said (solution ∷ cert ∷ []) outcome _ left is;
+      }
+
+  routed : (name solution cert : Name) (rounds : ℕ) (outcome : Outcome Status) → Leaves before after (solution ∷ cert ∷ []) outcome.texts outcome.report
+      → (bytes : Bytes) (board : Board) → get files name ≡ Some bytes → board_of bytes ≡ Ok board → Routes board rounds outcome → IsWorth (route name solution cert rounds) files before after outcome.status
+  routed name solution cert rounds outcome left bytes board found says (is_unconnectable nets are some is) = subst (λ (o : Outcome Status). IsWorth (route name solution cert rounds) files before after o.status) (sym is) tt
+  routed name solution cert rounds outcome left bytes board found says (is_over_limit over is) = subst (λ (o : Outcome Status). IsWorth (route name solution cert rounds) files before after o.status) (sym is) tt
+  routed name solution cert rounds outcome left bytes board found says (is_routed routing proof improved is) =
+      subst (λ (o : Outcome Status). IsWorth (route name solution cert rounds) files before after o.status) (sym is) (record {
+        board = board;
+        described = (bytes, found, says);
+        routed = found-written board solution cert rounds 1 route_report outcome left routing proof improved is;
       })
+
+  written : (fpgas nets groups : ℕ) (name : Name) (outcome : Outcome Status) → Leaves before after (name ∷ []) outcome.texts outcome.report → Generates fpgas nets groups outcome → IsWorth (gen fpgas nets groups name) files before after outcome.status
+  written fpgas nets groups name outcome left generates =
+      subst (λ (o : Outcome Status). IsWorth (gen fpgas nets groups name) files before after o.status) (sym generates.is) (record {
+        written = left-files (name ∷ []) outcome _ left generates.is;
+        reads_back = board_text_reads_back (generated fpgas nets groups) generates.limits;
+        told = left-said (name ∷ []) outcome _ left generates.is;
+      })
+
+  shown : (fpgas nets groups : ℕ) (solution cert : Name) (outcome : Outcome Status) → Leaves before after (solution ∷ cert ∷ []) outcome.texts outcome.report → Demonstrates fpgas nets groups outcome → IsWorth (demo fpgas nets groups solution cert) files before after outcome.status
+  shown fpgas nets groups solution cert outcome left (is_too_large over is) = subst (λ (o : Outcome Status). IsWorth (demo fpgas nets groups solution cert) files before after o.status) (sym is) tt
+  shown fpgas nets groups solution cert outcome left (is_shown routing proof improved is) =
+      subst (λ (o : Outcome Status). IsWorth (demo fpgas nets groups solution cert) files before after o.status) (sym is)
+      (found-written (generated fpgas nets groups) solution cert 20 0 (demo_report (generated fpgas nets groups)) outcome left routing proof improved is)
 
   judged : (name solution : Name) (outcome : Outcome Status) → Leaves before after [] outcome.texts outcome.report → (bytes : Bytes) (board : Board) → get files name ≡ Some bytes → board_of bytes ≡ Ok board
       → (text : Bytes) (routing : Routing) → get files solution ≡ Some text → solution_of board text ≡ Ok routing → Judges board routing outcome → IsWorth (eval name solution) files before after outcome.status
@@ -159,6 +190,8 @@ module _ (files : Files) (before after : Seen) (told : files_of before ≡ Some 
       file-says In0 boards _ (IsWorth (check board cert) files before after) (get files board) outcome calls tt tt
       (λ bytes problem found says then. file-says In1 (certificates problem) (λ proof. Checks problem proof) (IsWorth (check board cert) files before after) (get files cert) outcome then tt tt
       (checked board cert outcome left bytes problem found says))
+  worth (gen fpgas nets groups board) outcome calls left = written fpgas nets groups board outcome left calls
+  worth (demo fpgas nets groups solution cert) outcome calls left = shown fpgas nets groups solution cert outcome left calls
   worth nothing outcome calls left = tt
 
   -- a fault of the outside is worth nothing
@@ -172,6 +205,12 @@ module _ (files : Files) (before after : Seen) (told : files_of before ≡ Some 
   worthless (check board cert) status.ReadFault fault = tt
   worthless (check board cert) status.WriteFault fault = tt
   worthless (check board cert) status.OutOfMemory fault = tt
+  worthless (gen fpgas nets groups board) status.ReadFault fault = tt
+  worthless (gen fpgas nets groups board) status.WriteFault fault = tt
+  worthless (gen fpgas nets groups board) status.OutOfMemory fault = tt
+  worthless (demo fpgas nets groups solution cert) status.ReadFault fault = tt
+  worthless (demo fpgas nets groups solution cert) status.WriteFault fault = tt
+  worthless (demo fpgas nets groups solution cert) status.OutOfMemory fault = tt
   worthless nothing answer fault = tt
   worthless request _ fault = absurd fault
 

@@ -3,6 +3,7 @@ use Rattle.std.specs.Prelude.{◌≡◌, ◌<◌, ℕ, length, Option, Some, Non
 use Rattle.std.specs.FinMap.{get}
 use Rattle.tdm_desk.specs.Files.{Bytes, Files}
 use Rattle.tdm_problem.specs.Board.{Board}
+use Rattle.board_generator.specs.Generated.{generated}
 use Rattle.tdm_problem.specs.Routing.{Routing}
 use Rattle.tdm_problem.specs.Walk.{IsConnectable}
 use Rattle.tdm_problem.specs.Legal.{IsLegal, terminals_of, AllConnectable}
@@ -13,7 +14,7 @@ use Rattle.tdm_cli.specs.declared.status.Status.{Status}
 use Rattle.tdm_cli.specs.declared.status.Status.TheVariants as status
 use Rattle.tdm_cli.specs.Baseline.{IsOverUseLimit, IsWithinUseLimit}
 use Rattle.tdm_cli.specs.Kinds.{boards, solutions, certificates}
-use Rattle.tdm_cli.specs.Request.{Request, route, eval, check, nothing}
+use Rattle.tdm_cli.specs.Request.{Request, route, eval, check, gen, demo, nothing}
 
 -- a text decides where it is refused, and else what follows from what it says
 abbrev pub SaidFor : {V R : Type 0} → TextKind Status V R → (V → Status → Type 0) → Result V R → Status → Type 0
@@ -48,6 +49,12 @@ CheckingFor board cert status.Ok = IsValid board cert
 CheckingFor board cert status.CertRejected = IsValid board cert → ⊥
 CheckingFor board cert _ = ⊥
 
+-- a board whose nets can be joined is routed where its baseline is within the limit on uses
+abbrev pub ShowingFor : Board → Status → Type 0
+ShowingFor board status.UseLimit = IsOverUseLimit board
+ShowingFor board status.Ok = IsWithinUseLimit board
+ShowingFor board _ = ⊥
+
 -- the status that the files call for: one input after another decides, and then what they say
 abbrev pub StatusFor : Request → Files → Status → Type 0
 StatusFor (route board solution cert rounds) files = FileFor boards RoutingFor (get files board)
@@ -55,6 +62,8 @@ StatusFor (eval board solution) files =
     FileFor boards (λ problem. FileFor (solutions problem) (JudgingFor problem) (get files solution)) (get files board)
 StatusFor (check board cert) files =
     FileFor boards (λ problem. FileFor (certificates problem) (CheckingFor problem) (get files cert)) (get files board)
+StatusFor (gen fpgas nets groups board) files = λ answer. answer ≡ status.Ok
+StatusFor (demo fpgas nets groups solution cert) files = ShowingFor (generated fpgas nets groups)
 StatusFor nothing files = λ answer. answer ≡ status.Usage
 
 -- the answer shows a fault of the outside, or want of memory

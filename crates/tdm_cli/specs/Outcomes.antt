@@ -2,10 +2,12 @@
 use Rattle.std.specs.Prelude.{◌≡◌, ◌<◌, ◌↔◌, ℕ, List, [], ◌∷◌, length, None}
 use Rattle.tdm_desk.specs.Files.{Bytes}
 use Rattle.tdm_desk.specs.declared.slots.InSlot.TheVariants.{In0, In1}
-use Rattle.tdm_problem.specs.Board.{Board}
+use Rattle.tdm_problem.specs.Board.{Board, IsBoard}
 use Rattle.tdm_problem.specs.Routing.{Routing}
 use Rattle.tdm_problem.specs.Legal.{IsLegal}
 use Rattle.tdm_problem.specs.Value.{value_of}
+use Rattle.board_generator.specs.Generated.{generated}
+use Rattle.contest_input.specs.Canonical.{board_text}
 use Rattle.solution_text.specs.Text.{solution_text}
 use Rattle.solution_eval.specs.declared.judgement.Verdict.{Verdict}
 use Rattle.solution_eval.specs.declared.judgement.Verdict.TheVariants as verdict
@@ -20,11 +22,11 @@ use Rattle.command_run.specs.Outcome.{Outcome}
 use Rattle.command_run.specs.Inputs.{Content, ByInput, ByNone}
 use Rattle.tdm_cli.specs.declared.status.Status.{Status}
 use Rattle.tdm_cli.specs.declared.status.Status.TheVariants as status
-use Rattle.tdm_cli.specs.Reports.{usage_report, route_report, verdict_report, answer_report, unconnectable_report, use_limit_report}
+use Rattle.tdm_cli.specs.Reports.{usage_report, route_report, size_report, demo_report, verdict_report, answer_report, unconnectable_report, use_limit_report}
 use Rattle.tdm_cli.specs.Baseline.{AreUnconnectable, IsOverUseLimit}
 use Rattle.tdm_cli.specs.Improved.{IsImproved}
 use Rattle.tdm_cli.specs.Kinds.{faults, boards, solutions, certificates}
-use Rattle.tdm_cli.specs.Request.{Request, route, eval, check, nothing}
+use Rattle.tdm_cli.specs.Request.{Request, route, eval, check, gen, demo, nothing}
 
 -- the outcome with this status, report and texts, after so many inputs that could all be read
 abbrev pub comes_to : ℕ → Status → Bytes → List Bytes → Outcome Status
@@ -70,6 +72,23 @@ pub record Checks (board : Board) (cert : Cert) (outcome : Outcome Status) : Typ
   pub right : IsAnswer board cert answer
   pub is : outcome ≡ comes_to 2 (status_of_answer answer) (answer_report answer) []
 
+-- the board of these numbers is written, and how large it is, is said
+pub record Generates (fpgas nets groups : ℕ) (outcome : Outcome Status) : Type 0 where
+  pub limits : IsBoard (generated fpgas nets groups)
+  pub is : outcome ≡ comes_to 0 status.Ok (size_report (generated fpgas nets groups))
+      (board_text (generated fpgas nets groups) ∷ [])
+
+-- what the routing of the board of these numbers by 20 rounds comes to: the baseline has too many uses, or a solution and a
+-- certificate are written, and how large the board is, their value and their bound are said
+pub data Demonstrates (fpgas nets groups : ℕ) (outcome : Outcome Status) : Type 0 where
+  is_too_large : IsOverUseLimit (generated fpgas nets groups)
+      → outcome ≡ comes_to 0 status.UseLimit use_limit_report [] → Demonstrates fpgas nets groups outcome
+  is_shown : (routing : Routing) (cert : Cert) → IsImproved (generated fpgas nets groups) 20 routing cert
+      → outcome ≡ comes_to 0 status.Ok
+      (demo_report (generated fpgas nets groups) (value_of (generated fpgas nets groups) routing) (bound_of (generated fpgas nets groups) cert))
+      (solution_text routing ∷ cert_text cert ∷ [])
+      → Demonstrates fpgas nets groups outcome
+
 -- what `eval` comes to once the board was had
 abbrev pub JudgesNext : Board → List Content → Outcome Status → Type 0
 JudgesNext board = ByInput faults In1 (solutions board) (λ routing. ByNone (Judges board routing))
@@ -83,4 +102,6 @@ abbrev pub CallsFor : Request → List Content → Outcome Status → Type 0
 CallsFor (route board solution cert rounds) = ByInput faults In0 boards (λ problem. ByNone (Routes problem rounds))
 CallsFor (eval board solution) = ByInput faults In0 boards JudgesNext
 CallsFor (check board cert) = ByInput faults In0 boards ChecksNext
+CallsFor (gen fpgas nets groups board) = ByNone (Generates fpgas nets groups)
+CallsFor (demo fpgas nets groups solution cert) = ByNone (Demonstrates fpgas nets groups)
 CallsFor nothing = ByNone (λ outcome. outcome ≡ refused_words)

@@ -9,7 +9,9 @@ use Rattle.tdm_problem.specs.Tight.{IsTight}
 use Rattle.tdm_problem.specs.Walk.{IsMinimalTree}
 use Rattle.tdm_problem.specs.Legal.{IsLegal, terminals_of}
 use Rattle.tdm_problem.specs.Value.{value_of}
+use Rattle.board_generator.specs.Generated.{generated}
 use Rattle.contest_input.specs.BoardText.{board_of}
+use Rattle.contest_input.specs.Canonical.{board_text}
 use Rattle.solution_text.specs.Text.{solution_text}
 use Rattle.solution_text.specs.Reading.{solution_of}
 use Rattle.solution_eval.specs.declared.judgement.Verdict.{Verdict}
@@ -29,8 +31,8 @@ use Rattle.tdm_cli.specs.declared.status.Status.TheVariants as status
 use Rattle.tdm_cli.specs.Baseline.{most_uses}
 use Rattle.tdm_cli.specs.Routing.{IsBaselineValue}
 use Rattle.tdm_cli.specs.Improved.{MeetsBaselineRounds}
-use Rattle.tdm_cli.specs.Reports.{route_report, bound_report, steep_report, verdict_report}
-use Rattle.tdm_cli.specs.Request.{Request, route, eval, check, nothing}
+use Rattle.tdm_cli.specs.Reports.{route_report, size_report, demo_report, bound_report, steep_report, verdict_report}
+use Rattle.tdm_cli.specs.Request.{Request, route, eval, check, gen, demo, nothing}
 
 -- the file of this name is there and is the text of this board
 abbrev pub Describes : Files → Name → Board → Type 0
@@ -46,11 +48,9 @@ abbrev pub Certifies : Files → Name → Board → Cert → Type 0
 Certifies files name board cert = (bytes : Bytes) × (get files name ≡ Some bytes)
     × (cert_of board bytes ≡ Ok cert)
 
--- a solution of the board in one file, found by so many rounds, is written to another and a certificate to a third, both
--- read back, and their value and bound are said
-pub record IsRouted (files : Files) (name solution cert : Name) (count : ℕ) (before after : Seen) : Type 0 where
-  pub board : Board
-  pub described : Describes files name board
+-- a solution of the board, found by so many rounds, is written to one file and a certificate to another, both read back, and
+-- their value and bound are said in such a report
+pub record IsWritten (board : Board) (files : Files) (solution cert : Name) (count : ℕ) (report : (value bound : ℕ) → Bytes) (before after : Seen) : Type 0 where
   pub routing : Routing
   pub legal : IsLegal board routing
   pub minimal : (n : ℕ) → n < length board.nets
@@ -71,7 +71,19 @@ pub record IsRouted (files : Files) (name solution cert : Name) (count : ℕ) (b
   pub reads_back : solution_of board (solution_text routing) ≡ Ok routing
   pub cert_reads_back : cert_of board (cert_text proof) ≡ Ok proof
   pub told : said_of after
-      ≡ option_map (λ s. s ++ route_report (value_of board routing) (bound_of board proof)) (said_of before)
+      ≡ option_map (λ s. s ++ report (value_of board routing) (bound_of board proof)) (said_of before)
+
+-- a solution of the board in one file, found by so many rounds, and a certificate are written
+pub record IsRouted (files : Files) (name solution cert : Name) (count : ℕ) (before after : Seen) : Type 0 where
+  pub board : Board
+  pub described : Describes files name board
+  pub routed : IsWritten board files solution cert count route_report before after
+
+-- the board of these numbers is written, reads back, and how large it is, is said
+pub record IsGenerated (files : Files) (fpgas nets groups : ℕ) (name : Name) (before after : Seen) : Type 0 where
+  pub written : files_of after ≡ Some (with_file name (board_text (generated fpgas nets groups)) files)
+  pub reads_back : board_of (board_text (generated fpgas nets groups)) ≡ Ok (generated fpgas nets groups)
+  pub told : said_of after ≡ option_map (λ s. s ++ size_report (generated fpgas nets groups)) (said_of before)
 
 -- the verdict on the solution in one file of the board in the other is right and is said, and no file is changed
 pub record IsJudged (files : Files) (name solution : Name) (before after : Seen) (verdict : Verdict) : Type 0 where
@@ -119,6 +131,10 @@ IsWorth (eval board solution) files before after status.Illegal = (verdict : Ver
     × (SaysLegal verdict → ⊥) × IsJudged files board solution before after verdict
 IsWorth (check board cert) files before after status.Ok = IsBounded files board cert before after
 IsWorth (check board cert) files before after status.CertRejected = IsRejected files board cert before after
+IsWorth (gen fpgas nets groups board) files before after status.Ok =
+    IsGenerated files fpgas nets groups board before after
+IsWorth (demo fpgas nets groups solution cert) files before after status.Ok =
+    IsWritten (generated fpgas nets groups) files solution cert 20 (demo_report (generated fpgas nets groups)) before after
 IsWorth request files before after answer = Unit {0}
 
 -- no legal solution of a board has a value below the bound of a certificate that is accepted for it, whoever made it

@@ -1,6 +1,7 @@
 -- The texts that the program says. Each line ends with a line feed.
-use Rattle.std.specs.Prelude.{ℕ, List, [], ◌∷◌, ◌++◌, codes}
+use Rattle.std.specs.Prelude.{ℕ, List, [], ◌∷◌, ◌++◌, length, codes}
 use Rattle.std.specs.List.{flat_map}
+use Rattle.tdm_problem.specs.Board.{Board}
 use Rattle.solution_eval.specs.declared.judgement.Verdict.{Verdict}
 use Rattle.solution_eval.specs.declared.judgement.Verdict.TheVariants.{Legal, NotJoined, BadRatio, Overfull}
 use Rattle.cert_checker.specs.declared.steep.Steep.{Steep}
@@ -19,6 +20,15 @@ bound_report bound = numbered (codes "bound ") bound
 -- what the written solution is worth, and the bound of the written certificate
 abbrev pub route_report : (value bound : ℕ) → List ℕ
 route_report value bound = value_report value ++ bound_report bound
+
+-- how large a board is
+abbrev pub size_report : Board → List ℕ
+size_report board = counted (codes "fpgas ") board.fpgas ++ (counted (codes " wires ") (length board.wires)
+    ++ (counted (codes " nets ") (length board.nets) ++ numbered (codes " groups ") (length board.groups)))
+
+-- how large the board is, what the written solution is worth, and the bound of the written certificate
+abbrev pub demo_report : Board → (value bound : ℕ) → List ℕ
+demo_report board value bound = size_report board ++ route_report value bound
 
 -- the words are no command
 abbrev pub usage_report : List ℕ

@@ -2,7 +2,7 @@
 use Rattle.std.specs.Prelude.{ℕ, List, [], ◌∷◌}
 use Rattle.tdm_desk.specs.Files.{Name}
 use Rattle.command_run.specs.Inputs.{Input}
-use Rattle.tdm_cli.specs.Words.{IsRoute, IsEval, IsCheck, IsCommand}
+use Rattle.tdm_cli.specs.Words.{IsRoute, IsEval, IsCheck, IsGen, IsDemo, IsCommand}
 use Rattle.tdm_cli.specs.Kinds.{board_input, second_input}
 
 -- a command with the names of its files and its numbers, or none
@@ -10,6 +10,8 @@ pub data Request : Type 0 where
   route : (board solution cert : Name) (rounds : ℕ) → Request
   eval : (board solution : Name) → Request
   check : (board cert : Name) → Request
+  gen : (fpgas nets groups : ℕ) (board : Name) → Request
+  demo : (fpgas nets groups : ℕ) (solution cert : Name) → Request
   nothing : Request
 
 -- the words ask for it
@@ -17,6 +19,8 @@ abbrev pub Asks : List Name → Request → Type 0
 Asks words (route board solution cert rounds) = IsRoute words board solution cert rounds
 Asks words (eval board solution) = IsEval words board solution
 Asks words (check board cert) = IsCheck words board cert
+Asks words (gen fpgas nets groups board) = IsGen words fpgas nets groups board
+Asks words (demo fpgas nets groups solution cert) = IsDemo words fpgas nets groups solution cert
 Asks words nothing = ¬ IsCommand words
 
 -- its inputs, in order
@@ -24,6 +28,8 @@ abbrev pub inputs_of : Request → List Input
 inputs_of (route board solution cert rounds) = board_input board ∷ []
 inputs_of (eval board solution) = board_input board ∷ second_input solution ∷ []
 inputs_of (check board cert) = board_input board ∷ second_input cert ∷ []
+inputs_of (gen fpgas nets groups board) = []
+inputs_of (demo fpgas nets groups solution cert) = []
 inputs_of nothing = []
 
 -- the names of its outputs, in order
@@ -31,4 +37,6 @@ abbrev pub outputs_of : Request → List Name
 outputs_of (route board solution cert rounds) = solution ∷ cert ∷ []
 outputs_of (eval board solution) = []
 outputs_of (check board cert) = []
+outputs_of (gen fpgas nets groups board) = board ∷ []
+outputs_of (demo fpgas nets groups solution cert) = solution ∷ cert ∷ []
 outputs_of nothing = []

@@ -1,11 +1,12 @@
 //! The words that are commands, the reports and the codes, computed.
 ghost use Rattle.std.specs.Prelude.{◌≡◌, [], ◌∷◌, codes};
+ghost use Rattle.tdm_problem.specs.Samples.{star};
 ghost use Rattle.cert_checker.specs.declared.answer.CheckAnswer.TheVariants.{Accepted, Rejected};
 ghost use Rattle.solution_eval.specs.declared.judgement.Verdict.TheVariants.{BadRatio, Legal, NotJoined, Overfull};
 ghost use Rattle.command_run.specs.Reports.{no_input_report, read_fault_report};
 ghost use Rattle.tdm_cli.specs.Code.{code_of};
 ghost use Rattle.tdm_cli.specs.declared.status.Status.TheVariants.{BoardRefused, CertRefused, CertRejected, Illegal, NoInput, Ok, OutOfMemory, ReadFault, SolutionRefused, Unconnectable, Usage, UseLimit, WriteFault};
-ghost use Rattle.tdm_cli.specs.Reports.{answer_report, board_refused_report, cert_refused_report, route_report, solution_refused_report, unconnectable_report, usage_report, use_limit_report, verdict_report};
+ghost use Rattle.tdm_cli.specs.Reports.{answer_report, board_refused_report, cert_refused_report, route_report, size_report, solution_refused_report, unconnectable_report, usage_report, use_limit_report, verdict_report};
 ghost use Rattle.tdm_cli.specs.Words.{IsCommand, IsEval, IsRoute};
 
 /// Each verb takes its number of names, none of them empty, and an output may bear the input's name, but not that of
@@ -26,6 +27,7 @@ fn verbs_take_names()
 /// Reports are lines of words and numbers.
 fn reports_are_lines()
     ensures route { route_report 10 10 ≡ codes "value 10\nbound 10\n" }
+    ensures size { size_report star ≡ codes "fpgas 4 wires 3 nets 1 groups 1\n" }
     ensures words { usage_report ≡ codes "words refused\n" }
     ensures read_fault { read_fault_report 1 ≡ codes "read fault input 1\n" }
     ensures no_input { no_input_report 1 ≡ codes "no input 1\n" }

@@ -11,11 +11,15 @@ mod command;
 mod deciding;
 #[cfg(test)]
 mod definitions;
+mod demo;
 mod eval;
 #[cfg(test)]
 mod fault_tests;
 #[cfg(test)]
 mod large_tests;
+mod generate;
+#[cfg(test)]
+mod generated_tests;
 mod numbers;
 mod outcome;
 mod prepare;

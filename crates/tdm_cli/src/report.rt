@@ -1,10 +1,11 @@
 //! The texts that the program says.
 ghost use Rattle.std.specs.Prelude.{◌≡◌, IfOk};
 ghost use Rattle.command_run.specs.Reports.{numbered};
-ghost use Rattle.tdm_cli.specs.Reports.{value_report, bound_report, route_report, unconnectable_report};
+ghost use Rattle.tdm_cli.specs.Reports.{value_report, bound_report, route_report, size_report, unconnectable_report};
 
-use command_run::push_line;
+use command_run::{push_line, push_number};
 use std::alloc::{AllocError, Global};
+use tdm_problem::Problem;
 
 /// What is said of words that are no command.
 pub const USAGE: &[u8] = b"words refused\n";
@@ -53,5 +54,17 @@ pub fn unconnectable(alloc: Global, nets: &[u32]) -> Result<Vec<u8>, AllocError>
     for net in nets {
         push_line(&mut text, b"unconnectable net ", u128::from(*net))?;
     }
+    Ok(text)
+}
+
+/// `fpgas F wires W nets N groups G`: how large a board is.
+pub fn size(alloc: Global, problem: &Problem) -> Result<Vec<u8>, AllocError>
+    ensures { IfOk result (λ text. text.items ≡ size_report problem.now) }
+{
+    let mut text = Vec::new(alloc);
+    push_number(&mut text, b"fpgas ", u128::from(problem.fpgas()))?;
+    push_number(&mut text, b" wires ", u128::from(problem.wires()))?;
+    push_number(&mut text, b" nets ", u128::from(problem.nets()))?;
+    push_line(&mut text, b" groups ", u128::from(problem.groups()))?;
     Ok(text)
 }

@@ -18,6 +18,8 @@ ghost use Rattle.tdm_cli.specs.declared.status.Status.TheVariants.{Ok, Usage, Re
 
 use crate::command::{Command, parse};
 use crate::deciding::{decide_check, decide_eval, decide_route};
+use crate::demo::demo;
+use crate::generate::generate;
 use crate::outcome::refused;
 use crate::status::Status;
 use command_run::{conclude, decided};
@@ -30,6 +32,14 @@ fn output_names(words: &[String]) -> &[String]
     ensures { result.now ≡ take 2 (drop 2 words.now) }
 {
     &words[2..4]
+}
+
+/// The words that name the outputs of `gen` and of `demo`.
+fn names_behind_numbers(words: &[String]) -> &[String]
+    requires { 4 ≤ length words.now }
+    ensures { result.now ≡ drop 4 words.now }
+{
+    &words[4..]
 }
 
 /// Does what the words ask for, and says a report.
@@ -51,6 +61,14 @@ fn run_words<D: Desk>(alloc: Global, desk: &mut D, words: &[String]) -> Status
         Some(Command::Check { board, cert }) => {
             let decision = decide_check(alloc, desk, board, cert);
             conclude(alloc, desk, decision, &[])
+        }
+        Some(Command::Gen { fpgas, nets, groups, .. }) => {
+            let decision = decided(generate(alloc, fpgas, nets, groups));
+            conclude(alloc, desk, decision, names_behind_numbers(words))
+        }
+        Some(Command::Demo { fpgas, nets, groups, .. }) => {
+            let decision = decided(demo(alloc, fpgas, nets, groups));
+            conclude(alloc, desk, decision, names_behind_numbers(words))
         }
         None => conclude(alloc, desk, decided(refused(alloc)), &[]),
     }

@@ -504,6 +504,13 @@ fn other_words_are_refused(rt: HostRuntime) -> Result<(), Fail> {
     assert!(rt; refuses_words(alloc, &["route", "", "s", "c"])?);
     assert!(rt; refuses_words(alloc, &["Route", "b", "s", "c"])?);
     assert!(rt; refuses_words(alloc, &["route", "b", "s", "c", "d", "e"])?);
+    assert!(rt; refuses_words(alloc, &["gen", "1", "1", "0", "b"])?);
+    assert!(rt; refuses_words(alloc, &["gen", "04", "3", "2", "b"])?);
+    assert!(rt; refuses_words(alloc, &["gen", "4097", "1", "0", "b"])?);
+    assert!(rt; refuses_words(alloc, &["gen", "4", "0", "0", "b"])?);
+    assert!(rt; refuses_words(alloc, &["gen", "4", "3", "2", ""])?);
+    assert!(rt; refuses_words(alloc, &["demo", "4", "3", "2", "s"])?);
+    assert!(rt; refuses_words(alloc, &["demo", "4", "3", "2", "s", "s"])?);
     Ok(())
 }
 

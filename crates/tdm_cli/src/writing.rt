@@ -3,15 +3,17 @@ ghost use Rattle.tdm_cli.specs.Texts.{text_of};
 
 use bound_cert::{Certificate, write_cert};
 use command_run::OutputText;
+use contest_input::write_board;
 use solution_text::write_solution;
 use tdm_desk::{Desk, DeskFault, OutSlot};
-use tdm_problem::Solution;
+use tdm_problem::{Problem, Solution};
 
 /// What the file of an output is made to hold the text of.
 #[derive(Drop)]
 pub enum Output {
     Solution(Solution),
     Cert(Certificate),
+    Board(Problem),
 }
 
 impl OutputText for Output {
@@ -23,6 +25,7 @@ impl OutputText for Output {
         match self {
             Output::Solution(solution) => write_solution(desk, slot, solution),
             Output::Cert(cert) => write_cert(desk, slot, cert),
+            Output::Board(board) => write_board(desk, slot, board),
         }
     }
 }

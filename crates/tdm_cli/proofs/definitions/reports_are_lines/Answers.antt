@@ -53,3 +53,7 @@ returns-clause-accepted c = refl
 pub returns-clause-steep : goal.returns-clause-steep
 unfolding digits
 returns-clause-steep c = refl
+
+pub returns-clause-size : goal.returns-clause-size
+unfolding digits
+returns-clause-size c = refl

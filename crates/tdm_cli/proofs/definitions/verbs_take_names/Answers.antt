@@ -27,11 +27,15 @@ pub returns-clause-no_words : goal.returns-clause-no_words
 returns-clause-no_words c (is_route board solution cert rounds is) = cc is.words_are
 returns-clause-no_words c (is_eval board solution is) = cc is.words_are
 returns-clause-no_words c (is_check board cert is) = cc is.words_are
+returns-clause-no_words c (is_gen fpgas nets groups board is) = cc is.words_are
+returns-clause-no_words c (is_demo fpgas nets groups solution cert is) = cc is.words_are
 
 pub returns-clause-too_few : goal.returns-clause-too_few
 returns-clause-too_few c (is_route board solution cert rounds is) = cc is.words_are
 returns-clause-too_few c (is_eval board solution is) = differ (codes "route" ∷ codes "b" ∷ codes "s" ∷ []) (codes "eval" ∷ board ∷ solution ∷ []) (λ same. omega (arith, same)) is.words_are
 returns-clause-too_few c (is_check board cert is) = differ (codes "route" ∷ codes "b" ∷ codes "s" ∷ []) (codes "check" ∷ board ∷ cert ∷ []) (λ same. omega (arith, same)) is.words_are
+returns-clause-too_few c (is_gen fpgas nets groups board is) = cc is.words_are
+returns-clause-too_few c (is_demo fpgas nets groups solution cert is) = cc is.words_are
 
 pub returns-clause-same_outputs : goal.returns-clause-same_outputs
 returns-clause-same_outputs c (is_route board solution cert rounds is) =
@@ -40,6 +44,8 @@ returns-clause-same_outputs c (is_route board solution cert rounds is) =
     is.apart (sym first ∙ second)
 returns-clause-same_outputs c (is_eval board solution is) = cc is.words_are
 returns-clause-same_outputs c (is_check board cert is) = cc is.words_are
+returns-clause-same_outputs c (is_gen fpgas nets groups board is) = cc is.words_are
+returns-clause-same_outputs c (is_demo fpgas nets groups solution cert is) = cc is.words_are
 
 pub returns-clause-no_name : goal.returns-clause-no_name
 returns-clause-no_name c (is_route board solution cert rounds is) = cc is.words_are
@@ -48,8 +54,12 @@ returns-clause-no_name c (is_eval board solution is) =
     let named : 0 < 0 = subst (λ (name : List ℕ). 0 < length name) (sym empty) is.second_named in
     omega (arith, named)
 returns-clause-no_name c (is_check board cert is) = differ (codes "eval" ∷ codes "b" ∷ [] ∷ []) (codes "check" ∷ board ∷ cert ∷ []) (λ same. omega (arith, same)) is.words_are
+returns-clause-no_name c (is_gen fpgas nets groups board is) = cc is.words_are
+returns-clause-no_name c (is_demo fpgas nets groups solution cert is) = cc is.words_are
 
 pub returns-clause-other_word : goal.returns-clause-other_word
 returns-clause-other_word c (is_route board solution cert rounds is) = cc is.words_are
 returns-clause-other_word c (is_eval board solution is) = differ (codes "Eval" ∷ codes "b" ∷ codes "s" ∷ []) (codes "eval" ∷ board ∷ solution ∷ []) (λ same. omega (arith, same)) is.words_are
 returns-clause-other_word c (is_check board cert is) = differ (codes "Eval" ∷ codes "b" ∷ codes "s" ∷ []) (codes "check" ∷ board ∷ cert ∷ []) (λ same. omega (arith, same)) is.words_are
+returns-clause-other_word c (is_gen fpgas nets groups board is) = cc is.words_are
+returns-clause-other_word c (is_demo fpgas nets groups solution cert is) = cc is.words_are

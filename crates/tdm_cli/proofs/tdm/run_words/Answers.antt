@@ -5,9 +5,9 @@ use Rattle.command_run.proofs.DecisionLaws.{decides-last}
 use Rattle.command_run.proofs.EndsLaws.{run-ends}
 use Rattle.command_run.proofs.StatusLaws.{has-room}
 use Rattle.tdm_cli.specs.Kinds.{faults}
-use Rattle.tdm_cli.specs.Request.{Request, route, eval, check, nothing, inputs_of}
-use Rattle.tdm_cli.specs.Outcomes.{CallsFor, refused_words}
-use Rattle.tdm_cli.proofs.RequestLaws.{few-texts, names-behind}
+use Rattle.tdm_cli.specs.Request.{Request, route, eval, check, gen, demo, nothing, inputs_of}
+use Rattle.tdm_cli.specs.Outcomes.{CallsFor, Generates, Demonstrates, refused_words}
+use Rattle.tdm_cli.proofs.RequestLaws.{few-texts, names-behind, names-last}
 use Rattle.tdm_cli.proofs.tdm.run_words.Goals as goal
 
 pub output_names-requires : goal.output_names-requires
@@ -56,6 +56,66 @@ returns-in-Some-Check-clause-ran g c =
     let request = check c.in-Some-Check.board.now c.in-Some-Check.cert.now in
     let room = has-room _ _ _ [] _ _ _ 0 (omega arith) (omega arith) (few-texts request) c.decide_check-decision.result c.decide_check-decision.ensures in
     (request, is, run-ends _ _ _ _ _ _ _ _ _ _ _ _ c.decide_check-decision.result c.decide_check-decision.ensures room c.conclude-in-Some-Check.ensures)
+
+pub generate-requires : goal.generate-requires
+generate-requires g c =
+    let is = rw c.in-Some-Gen.field-0-is at c.in-Some-Gen.ensures.found in
+    is.sizes
+
+pub names_behind_numbers-requires : goal.names_behind_numbers-requires
+names_behind_numbers-requires g c =
+    let is = rw c.in-Some-Gen.field-0-is at c.in-Some-Gen.ensures.found in
+    omega (arith, ap (λ (words : List (List ℕ)). length words) is.words_are, length-map c.args.words.now string_bytes)
+
+pub conclude-requires-in-Some-Gen : goal.conclude-requires-in-Some-Gen
+conclude-requires-in-Some-Gen g c =
+    let is = rw c.in-Some-Gen.field-0-is at c.in-Some-Gen.ensures.found in
+    let names = ap (map string_bytes) c.names_behind_numbers.ensures ∙ names-last string_bytes c.args.words.now _ _ _ _ _ is.words_are in
+    let decided = decides-last _ _ _ (Generates c.in-Some-Gen.fpgas c.in-Some-Gen.nets c.in-Some-Gen.groups) c.args.desk.now c.generate.result c.decided-decision.result c.generate.ensures c.decided-decision.ensures.some c.decided-decision.ensures.wanting in
+    has-room _ _ _ _ _ _ _ 1 (omega (arith, ap (λ (ns : List (List ℕ)). length ns) names)) (omega arith) (few-texts (gen c.in-Some-Gen.fpgas c.in-Some-Gen.nets c.in-Some-Gen.groups c.in-Some-Gen.field-0-3.now)) c.decided-decision.result decided
+
+pub returns-in-Some-Gen-clause-ran : goal.returns-in-Some-Gen-clause-ran
+returns-in-Some-Gen-clause-ran g c =
+    let is = rw c.in-Some-Gen.field-0-is at c.in-Some-Gen.ensures.found in
+    let request = gen c.in-Some-Gen.fpgas c.in-Some-Gen.nets c.in-Some-Gen.groups c.in-Some-Gen.field-0-3.now in
+    let names = ap (map string_bytes) c.names_behind_numbers.ensures ∙ names-last string_bytes c.args.words.now _ _ _ _ _ is.words_are in
+    let decided = decides-last _ _ _ (Generates c.in-Some-Gen.fpgas c.in-Some-Gen.nets c.in-Some-Gen.groups) c.args.desk.now c.generate.result c.decided-decision.result c.generate.ensures c.decided-decision.ensures.some c.decided-decision.ensures.wanting in
+    let room = has-room _ _ _ _ _ _ _ 1 (omega (arith, ap (λ (ns : List (List ℕ)). length ns) names)) (omega arith) (few-texts request) c.decided-decision.result decided in (
+      request,
+      is,
+      subst (λ outputs. RunEnds g.D.Desk.counts g.D.Desk.steady g.D.Desk.seen faults (inputs_of request) outputs (CallsFor request) c.args.desk.now c.conclude-in-Some-Gen.new.desk c.conclude-in-Some-Gen.result) names
+          (run-ends _ _ _ _ _ _ _ _ _ _ _ _ c.decided-decision.result decided room c.conclude-in-Some-Gen.ensures),
+    )
+
+pub demo-requires : goal.demo-requires
+demo-requires g c =
+    let is = rw c.in-Some-Demo.field-0-is at c.in-Some-Demo.ensures.found in
+    is.sizes
+
+pub names_behind_numbers-requires-in-Some-Demo : goal.names_behind_numbers-requires-in-Some-Demo
+names_behind_numbers-requires-in-Some-Demo g c =
+    let is = rw c.in-Some-Demo.field-0-is at c.in-Some-Demo.ensures.found in
+    omega (arith, ap (λ (words : List (List ℕ)). length words) is.words_are, length-map c.args.words.now string_bytes)
+
+pub conclude-requires-in-Some-Demo : goal.conclude-requires-in-Some-Demo
+conclude-requires-in-Some-Demo g c =
+    let is = rw c.in-Some-Demo.field-0-is at c.in-Some-Demo.ensures.found in
+    let names = ap (map string_bytes) c.names_behind_numbers-in-Some-Demo.ensures ∙ names-last string_bytes c.args.words.now _ _ _ _ _ is.words_are in
+    let decided = decides-last _ _ _ (Demonstrates c.in-Some-Demo.fpgas c.in-Some-Demo.nets c.in-Some-Demo.groups) c.args.desk.now c.demo.result c.decided-decision-in-Some-Demo.result c.demo.ensures c.decided-decision-in-Some-Demo.ensures.some c.decided-decision-in-Some-Demo.ensures.wanting in
+    has-room _ _ _ _ _ _ _ 2 (omega (arith, ap (λ (ns : List (List ℕ)). length ns) names)) (omega arith) (few-texts (demo c.in-Some-Demo.fpgas c.in-Some-Demo.nets c.in-Some-Demo.groups c.in-Some-Demo.field-0-3.now c.in-Some-Demo.field-0-4.now)) c.decided-decision-in-Some-Demo.result decided
+
+pub returns-in-Some-Demo-clause-ran : goal.returns-in-Some-Demo-clause-ran
+returns-in-Some-Demo-clause-ran g c =
+    let is = rw c.in-Some-Demo.field-0-is at c.in-Some-Demo.ensures.found in
+    let request = demo c.in-Some-Demo.fpgas c.in-Some-Demo.nets c.in-Some-Demo.groups c.in-Some-Demo.field-0-3.now c.in-Some-Demo.field-0-4.now in
+    let names = ap (map string_bytes) c.names_behind_numbers-in-Some-Demo.ensures ∙ names-last string_bytes c.args.words.now _ _ _ _ _ is.words_are in
+    let decided = decides-last _ _ _ (Demonstrates c.in-Some-Demo.fpgas c.in-Some-Demo.nets c.in-Some-Demo.groups) c.args.desk.now c.demo.result c.decided-decision-in-Some-Demo.result c.demo.ensures c.decided-decision-in-Some-Demo.ensures.some c.decided-decision-in-Some-Demo.ensures.wanting in
+    let room = has-room _ _ _ _ _ _ _ 2 (omega (arith, ap (λ (ns : List (List ℕ)). length ns) names)) (omega arith) (few-texts request) c.decided-decision-in-Some-Demo.result decided in (
+      request,
+      is,
+      subst (λ outputs. RunEnds g.D.Desk.counts g.D.Desk.steady g.D.Desk.seen faults (inputs_of request) outputs (CallsFor request) c.args.desk.now c.conclude-in-Some-Demo.new.desk c.conclude-in-Some-Demo.result) names
+          (run-ends _ _ _ _ _ _ _ _ _ _ _ _ c.decided-decision-in-Some-Demo.result decided room c.conclude-in-Some-Demo.ensures),
+    )
 
 pub returns-in-None-clause-ran : goal.returns-in-None-clause-ran
 returns-in-None-clause-ran g c =
