@@ -183,7 +183,7 @@ module _ (kept : Firsts) (sizes : Sizes) (potentials : ℕ) (cert : Cert) (is : 
         largest = is.largest;
         few = is.few;
         some = is.some;
-    grown = is.grown;
+        grown = is.grown;
         weights = is.weights;
         lengths = subst (λ (k : CertKind). HasLengths k lengths) (sym share) now;
         potentials_are = is.potentials_are;
@@ -200,7 +200,7 @@ module _ (kept : Firsts) (sizes : Sizes) (potentials : ℕ) (cert : Cert) (is : 
         largest = is.largest;
         few = is.few;
         some = is.some;
-    grown = is.grown;
+        grown = is.grown;
         weights = is.weights;
         lengths = is.lengths;
         potentials_are = rw grown (All-push IsPotential cert.potentials row is.potentials_are one);

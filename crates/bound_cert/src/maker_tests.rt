@@ -6,8 +6,8 @@ ghost use Rattle.bound_cert.specs.Certificate.{IsCertFor};
 ghost use Rattle.tdm_problem.specs.Legal.{AllConnectable};
 
 use crate::{
-    CertKind, Certificate, growing_hop_cert, growing_share_cert, hop_group_cert, uniform_share_cert,
-    weighted_share_cert,
+    CertKind, Certificate, growing_hop_cert, growing_share_cert, hop_group_cert,
+    uniform_share_cert, weighted_share_cert,
 };
 use board_graph::BoardGraph;
 use shortest_forest::{base_tree, hops};
@@ -159,10 +159,12 @@ fn star_grows_by_its_numbers(alloc: Global) -> Result<bool, AllocError> {
     }
     let shares = growing_share_cert(alloc, &problem, &[4], &[5, 0, 2])?;
     let hops = growing_hop_cert(alloc, &problem, 0)?;
-    Ok(shares.grows()
-        && hops.grows()
-        && numbers(alloc, &problem, &shares)?.as_slice() == [4, 5, 0, 2, 0].as_slice()
-        && numbers(alloc, &problem, &hops)?.as_slice() == [1, 1, 1, 1, 0].as_slice())
+    Ok(
+        shares.grows()
+            && hops.grows()
+            && numbers(alloc, &problem, &shares)?.as_slice() == [4, 5, 0, 2, 0].as_slice()
+            && numbers(alloc, &problem, &hops)?.as_slice() == [1, 1, 1, 1, 0].as_slice(),
+    )
 }
 
 /// Whether the star's certificates have the numbers that they must.

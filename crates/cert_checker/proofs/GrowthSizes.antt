@@ -46,6 +46,6 @@ module _ (board : Board) where
       omega (
         arith,
         growth-le_lengths board wire_length wires (root ∷ growing) growth (inl grows)
-        (joined (root ∷ growing) (connectable-from_growth board root growing (both_ways wire_length) growth grows)),
+            (joined (root ∷ growing) (connectable-from_growth board root growing (both_ways wire_length) growth grows)),
         sum-all_below (length board.wires) most wire_length small,
       )

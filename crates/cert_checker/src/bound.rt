@@ -35,12 +35,7 @@ pub(crate) fn bound(
 }
 
 /// What the bound times the divisor must reach, 0 where that is negative.
-fn demand(
-    problem: &Problem,
-    cert: &Certificate,
-    mut weights: Vec<u64>,
-    spreads: &[u128],
-) -> u128
+fn demand(problem: &Problem, cert: &Certificate, mut weights: Vec<u64>, spreads: &[u128]) -> u128
     requires board { IsBoard problem.now }
     requires is_for { IsCertFor problem.now cert.now }
     requires weights { AreNetWeights problem.now cert.now weights.items }

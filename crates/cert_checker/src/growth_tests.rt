@@ -1,7 +1,7 @@
 //! How far FPGAs of small boards grow.
-ghost use Rattle.std.specs.Prelude.{◌≡◌, ◌≢◌, ◌<◌, ◌≤◌, ◌^◌, length, All, AllPairs};
+ghost use Rattle.std.specs.Prelude.{◌≡◌, ◌≢◌, ◌<◌, ◌≤◌, ◌^◌, length, IfOk, All, AllPairs};
 
-use crate::Grower;
+use crate::{Grower, growths};
 use board_graph::BoardGraph;
 use std::alloc::{AllocError, Global};
 use std::test::Fail;
@@ -91,5 +91,34 @@ fn what_is_not_joined_does_not_grow(rt: HostRuntime) -> Result<(), Fail> {
     assert_eq!(rt; growth_on_ring(alloc, &[1; 5], &[0, 1, 5])?, 0);
     assert_eq!(rt; growth_on_ring(alloc, &[1; 5], &[5])?, 0);
     assert_eq!(rt; growth_on_ring(alloc, &[1; 5], &[])?, 0);
+    Ok(())
+}
+
+/// A star of three wires around FPGA 0, and a triangle of the FPGAs 4, 5 and 6, with nets on them and across.
+fn star_and_triangle(alloc: Global) -> Result<Problem, AllocError>
+    ensures { IfOk result (λ problem. (length problem.wires ≡ 6) × (length problem.nets ≡ 6)) }
+{
+    let mut draft = ProblemDraft::new(alloc, 7);
+    draft.push_wire(Wire { a: 0, b: 1 })?;
+    draft.push_wire(Wire { a: 0, b: 2 })?;
+    draft.push_wire(Wire { a: 0, b: 3 })?;
+    draft.push_wire(Wire { a: 4, b: 5 })?;
+    draft.push_wire(Wire { a: 5, b: 6 })?;
+    draft.push_wire(Wire { a: 6, b: 4 })?;
+    draft.push_net(&[3, 1, 2])?;
+    draft.push_net(&[6, 4, 5])?;
+    draft.push_net(&[1, 2, 3])?;
+    draft.push_net(&[2, 6])?;
+    draft.push_net(&[4, 6])?;
+    draft.push_net(&[1, 2])?;
+    Ok(draft.into_problem())
+}
+
+#[test]
+fn nets_grow_by_their_sets_of_fpgas(rt: HostRuntime) -> Result<(), Fail> {
+    let alloc = rt.alloc();
+    let problem = star_and_triangle(alloc)?;
+    let grown = growths(alloc, &problem, &[1, 2, 3, 2, 3, 4], &[1, 1, 9, 1, 1, 0])?;
+    assert_eq!(rt; grown.as_slice(), [6, 5, 6, 0, 4, 0].as_slice());
     Ok(())
 }

@@ -201,8 +201,11 @@ module _ (key f : ℕ) (s next : Labels) (taken : IsTaken key f s next) where
     queued_waits_or_settled board arcs bound cap x distance (inl waits) = inl (waits.0, queued_waits x waits.0 waits.1, waits.2)
     queued_waits_or_settled board arcs bound cap x distance (inr (inl far)) = inr (inl far)
     queued_waits_or_settled board arcs bound cap x distance (inr (inr settled)) =
-        inr (inr (λ goal. settled.0 (subst (λ (gs : List Bool). IsGoal gs x) queued.goals goal), λ e v links. ⊎_elim
-        (λ near. inl (near.0, (near.1.0, queued_label v near.0 near.1.0 near.1.1), near.2)) (λ far. inr far) (settled.1 e v links)))
+        inr (inr (
+          λ goal. settled.0 (subst (λ (gs : List Bool). IsGoal gs x) queued.goals goal),
+          λ e v links. ⊎_elim
+              (λ near. inl (near.0, (near.1.0, queued_label v near.0 near.1.0 near.1.1), near.2)) (λ far. inr far) (settled.1 e v links),
+        ))
 
     -- what waits with a key that is too small may wait with a greater one
     pub IsUnderWay-queued : (board : Board) (arcs : Arcs) (bound : ℕ → ℕ) (cap d : ℕ) → IsUnderWay board arcs bound cap s → IsAtLabel s f d → due ≡ d + bound f → IsUnderWay board arcs bound cap new

@@ -99,8 +99,7 @@ number-is a b small few same = decimal_injective a b (omega (arith, small)) (ome
 -- three words that are numbers are those of the board that they ask for
 pub sizes-are : (fpga_word net_word group_word : List ℕ) (f n g f' n' g' : ℕ) → IsNumber 4096 fpga_word f → IsNumber (2 ^ 20) net_word n → IsNumber (2 ^ 20) group_word g → AskSizes fpga_word net_word group_word f' n' g' → (f ≡ f') × (n ≡ n') × (g ≡ g')
 sizes-are fpga_word net_word group_word f n g f' n' g' fpgas nets groups asks =
-    let s = asks.sizes in
-    (
+    let s = asks.sizes in (
       number-is f f' (omega (arith, fpgas.1)) (omega (arith, s.few_fpgas)) (sym fpgas.0 ∙ asks.fpgas_are),
       number-is n n' nets.1 s.few_nets (sym nets.0 ∙ asks.nets_are),
       number-is g g' groups.1 s.few_groups (sym groups.0 ∙ asks.groups_are),
@@ -112,8 +111,7 @@ module _ (words : List (List ℕ)) where
       let equal : words ≡ codes "gen" ∷ digits f ∷ digits n ∷ digits g ∷ board ∷ [] = one.words_are in
       let as_well : words ≡ codes "gen" ∷ digits f' ∷ digits n' ∷ digits g' ∷ board' ∷ [] = other.words_are in
       let s = one.sizes in
-      let t = other.sizes in
-      (
+      let t = other.sizes in (
         number-is f f' (omega (arith, s.few_fpgas)) (omega (arith, t.few_fpgas)) (cc (equal, as_well)),
         number-is n n' s.few_nets t.few_nets (cc (equal, as_well)),
         number-is g g' s.few_groups t.few_groups (cc (equal, as_well)),
@@ -126,8 +124,7 @@ module _ (words : List (List ℕ)) where
       let equal : words ≡ codes "demo" ∷ digits f ∷ digits n ∷ digits g ∷ solution ∷ cert ∷ [] = one.words_are in
       let as_well : words ≡ codes "demo" ∷ digits f' ∷ digits n' ∷ digits g' ∷ solution' ∷ cert' ∷ [] = other.words_are in
       let s = one.sizes in
-      let t = other.sizes in
-      (
+      let t = other.sizes in (
         number-is f f' (omega (arith, s.few_fpgas)) (omega (arith, t.few_fpgas)) (cc (equal, as_well)),
         number-is n n' s.few_nets t.few_nets (cc (equal, as_well)),
         number-is g g' s.few_groups t.few_groups (cc (equal, as_well)),

@@ -14,7 +14,9 @@ fn value_said(report: &[u8]) -> u64 {
         if !byte.is_ascii_digit() {
             break;
         }
-        value = value.wrapping_mul(10).wrapping_add(u64::from(byte.wrapping_sub(b'0')));
+        value = value
+            .wrapping_mul(10)
+            .wrapping_add(u64::from(byte.wrapping_sub(b'0')));
     }
     value
 }

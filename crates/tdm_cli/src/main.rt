@@ -15,11 +15,11 @@ mod demo;
 mod eval;
 #[cfg(test)]
 mod fault_tests;
-#[cfg(test)]
-mod large_tests;
 mod generate;
 #[cfg(test)]
 mod generated_tests;
+#[cfg(test)]
+mod large_tests;
 mod numbers;
 mod outcome;
 mod prepare;

@@ -62,11 +62,25 @@ fn run_words<D: Desk>(alloc: Global, desk: &mut D, words: &[String]) -> Status
             let decision = decide_check(alloc, desk, board, cert);
             conclude(alloc, desk, decision, &[])
         }
-        Some(Command::Gen { fpgas, nets, groups, .. }) => {
+        Some(
+            Command::Gen {
+                fpgas,
+                nets,
+                groups,
+                ..
+            },
+        ) => {
             let decision = decided(generate(alloc, fpgas, nets, groups));
             conclude(alloc, desk, decision, names_behind_numbers(words))
         }
-        Some(Command::Demo { fpgas, nets, groups, .. }) => {
+        Some(
+            Command::Demo {
+                fpgas,
+                nets,
+                groups,
+                ..
+            },
+        ) => {
             let decision = decided(demo(alloc, fpgas, nets, groups));
             conclude(alloc, desk, decision, names_behind_numbers(words))
         }
