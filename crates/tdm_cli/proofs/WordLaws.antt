@@ -3,6 +3,7 @@ use Rattle.std.proofs.Common.{◌≡◌, ℕ, ◌<◌, ◌≤◌, ◌^◌, lengt
 use Rattle.std.specs.Prelude.{Option, Some, None, IfNone, Result, Ok}
 use Rattle.std.specs.Str.Parse.{ParsesUnsigned}
 use Rattle.std.proofs.lemmas.Fmt.{parse-decimal, decimal_injective}
+use Rattle.tdm_lines.specs.Digits.{digits}
 use Rattle.tdm_cli.specs.Words.{NamesTwo, AskRounds, AskSizes, IsNumber, IsRoute, IsGen, IsDemo, IsNoRoute, IsNoGen, IsCommand, is_route, is_eval, is_check, is_gen, is_demo}
 
 -- a word that is a number is read as the number

@@ -11,11 +11,11 @@ returns-in_default-clause-none c = λ n is.
     let parsed = number-parsed c.args.word.now c.args.most n c.parse.result (omega arith) c.parse.ensures.value.0 is in
     absurd (cc (parsed, c.in_default.is))
 
-pub returns-then-number-gt-most-clause-none : goal.returns-then-number-gt-most-clause-none
-returns-then-number-gt-most-clause-none c = λ n is.
+pub returns-then-number-most-clause-none : goal.returns-then-number-most-clause-none
+returns-then-number-most-clause-none c = λ n is.
     let parsed = number-parsed c.args.word.now c.args.most n c.parse.result (omega arith) c.parse.ensures.value.0 is in
     let same : n ≡ c.in-Ok.number = cc (parsed, c.in-Ok.is) in
-    absurd (omega (arith, same, is.1, c.if-number-gt-most.true))
+    absurd (omega (arith, same, is.1, c.if-number-most.true))
 
 pub returns-then-ne-clause-none : goal.returns-then-ne-clause-none
 returns-then-ne-clause-none c = λ n is.

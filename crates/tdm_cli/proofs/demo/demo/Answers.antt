@@ -11,7 +11,7 @@ returns-in-Ok c =
     let shown = demo-shown c.args.fpgas c.args.nets c.args.groups c.in_ok-problem.problem c.in_ok-problem.ensures.same c.in_ok-problem.ensures.joined routed.status routed.report.items (map text_of routed.texts.items) c.in-Ok.is c.in_ok-routed.ensures in
     map-ok c.with_size.result _ _ (λ prepared is. subst (Demonstrates c.args.fpgas c.args.nets c.args.groups) (sym (is 0)) shown) c.with_size.ensures
 
-pub returns-in_default : goal.returns-in_default
-returns-in_default c =
+pub returns : goal.returns
+returns c =
     let routed = c.in_ok-routed.routed in
-    demo-silent c.args.fpgas c.args.nets c.args.groups c.in_ok-problem.problem c.in_ok-problem.ensures.same c.in_ok-problem.ensures.joined routed.status routed.report.items (map text_of routed.texts.items) c.in_ok-routed.ensures (λ ok. cc)
+    demo-silent c.args.fpgas c.args.nets c.args.groups c.in_ok-problem.problem c.in_ok-problem.ensures.same c.in_ok-problem.ensures.joined routed.status routed.report.items (map text_of routed.texts.items) c.in_ok-routed.ensures c.in_default.not-Ok

@@ -5,6 +5,7 @@ use Rattle.command_run.proofs.DecisionLaws.{decides-last}
 use Rattle.command_run.proofs.EndsLaws.{run-ends}
 use Rattle.command_run.proofs.StatusLaws.{has-room}
 use Rattle.tdm_cli.specs.Kinds.{faults}
+use Rattle.tdm_cli.specs.Texts.{text_of}
 use Rattle.tdm_cli.specs.Request.{Request, route, eval, check, gen, demo, nothing, inputs_of}
 use Rattle.tdm_cli.specs.Outcomes.{CallsFor, Generates, Demonstrates, refused_words}
 use Rattle.tdm_cli.proofs.RequestLaws.{few-texts, names-behind, names-last}
@@ -71,7 +72,7 @@ pub conclude-requires-in-Some-Gen : goal.conclude-requires-in-Some-Gen
 conclude-requires-in-Some-Gen g c =
     let is = rw c.in-Some-Gen.field-0-is at c.in-Some-Gen.ensures.found in
     let names = ap (map string_bytes) c.names_behind_numbers.ensures ∙ names-last string_bytes c.args.words.now _ _ _ _ _ is.words_are in
-    let decided = decides-last _ _ _ (Generates c.in-Some-Gen.fpgas c.in-Some-Gen.nets c.in-Some-Gen.groups) c.args.desk.now c.generate.result c.decided-decision.result c.generate.ensures c.decided-decision.ensures.some c.decided-decision.ensures.wanting in
+    let decided = decides-last {counts = g.D.Desk.counts} {steady = g.D.Desk.steady} {seen = g.D.Desk.seen} text_of faults 0 (Generates c.in-Some-Gen.fpgas c.in-Some-Gen.nets c.in-Some-Gen.groups) c.args.desk.now c.generate.result c.decided-decision.result c.generate.ensures c.decided-decision.ensures.some c.decided-decision.ensures.wanting in
     has-room _ _ _ _ _ _ _ 1 (omega (arith, ap (λ (ns : List (List ℕ)). length ns) names)) (omega arith) (few-texts (gen c.in-Some-Gen.fpgas c.in-Some-Gen.nets c.in-Some-Gen.groups c.in-Some-Gen.field-0-3.now)) c.decided-decision.result decided
 
 pub returns-in-Some-Gen-clause-ran : goal.returns-in-Some-Gen-clause-ran
@@ -79,7 +80,7 @@ returns-in-Some-Gen-clause-ran g c =
     let is = rw c.in-Some-Gen.field-0-is at c.in-Some-Gen.ensures.found in
     let request = gen c.in-Some-Gen.fpgas c.in-Some-Gen.nets c.in-Some-Gen.groups c.in-Some-Gen.field-0-3.now in
     let names = ap (map string_bytes) c.names_behind_numbers.ensures ∙ names-last string_bytes c.args.words.now _ _ _ _ _ is.words_are in
-    let decided = decides-last _ _ _ (Generates c.in-Some-Gen.fpgas c.in-Some-Gen.nets c.in-Some-Gen.groups) c.args.desk.now c.generate.result c.decided-decision.result c.generate.ensures c.decided-decision.ensures.some c.decided-decision.ensures.wanting in
+    let decided = decides-last {counts = g.D.Desk.counts} {steady = g.D.Desk.steady} {seen = g.D.Desk.seen} text_of faults 0 (Generates c.in-Some-Gen.fpgas c.in-Some-Gen.nets c.in-Some-Gen.groups) c.args.desk.now c.generate.result c.decided-decision.result c.generate.ensures c.decided-decision.ensures.some c.decided-decision.ensures.wanting in
     let room = has-room _ _ _ _ _ _ _ 1 (omega (arith, ap (λ (ns : List (List ℕ)). length ns) names)) (omega arith) (few-texts request) c.decided-decision.result decided in (
       request,
       is,
@@ -101,7 +102,7 @@ pub conclude-requires-in-Some-Demo : goal.conclude-requires-in-Some-Demo
 conclude-requires-in-Some-Demo g c =
     let is = rw c.in-Some-Demo.field-0-is at c.in-Some-Demo.ensures.found in
     let names = ap (map string_bytes) c.names_behind_numbers-in-Some-Demo.ensures ∙ names-last string_bytes c.args.words.now _ _ _ _ _ is.words_are in
-    let decided = decides-last _ _ _ (Demonstrates c.in-Some-Demo.fpgas c.in-Some-Demo.nets c.in-Some-Demo.groups) c.args.desk.now c.demo.result c.decided-decision-in-Some-Demo.result c.demo.ensures c.decided-decision-in-Some-Demo.ensures.some c.decided-decision-in-Some-Demo.ensures.wanting in
+    let decided = decides-last {counts = g.D.Desk.counts} {steady = g.D.Desk.steady} {seen = g.D.Desk.seen} text_of faults 0 (Demonstrates c.in-Some-Demo.fpgas c.in-Some-Demo.nets c.in-Some-Demo.groups) c.args.desk.now c.demo.result c.decided-decision-in-Some-Demo.result c.demo.ensures c.decided-decision-in-Some-Demo.ensures.some c.decided-decision-in-Some-Demo.ensures.wanting in
     has-room _ _ _ _ _ _ _ 2 (omega (arith, ap (λ (ns : List (List ℕ)). length ns) names)) (omega arith) (few-texts (demo c.in-Some-Demo.fpgas c.in-Some-Demo.nets c.in-Some-Demo.groups c.in-Some-Demo.field-0-3.now c.in-Some-Demo.field-0-4.now)) c.decided-decision-in-Some-Demo.result decided
 
 pub returns-in-Some-Demo-clause-ran : goal.returns-in-Some-Demo-clause-ran
@@ -109,7 +110,7 @@ returns-in-Some-Demo-clause-ran g c =
     let is = rw c.in-Some-Demo.field-0-is at c.in-Some-Demo.ensures.found in
     let request = demo c.in-Some-Demo.fpgas c.in-Some-Demo.nets c.in-Some-Demo.groups c.in-Some-Demo.field-0-3.now c.in-Some-Demo.field-0-4.now in
     let names = ap (map string_bytes) c.names_behind_numbers-in-Some-Demo.ensures ∙ names-last string_bytes c.args.words.now _ _ _ _ _ is.words_are in
-    let decided = decides-last _ _ _ (Demonstrates c.in-Some-Demo.fpgas c.in-Some-Demo.nets c.in-Some-Demo.groups) c.args.desk.now c.demo.result c.decided-decision-in-Some-Demo.result c.demo.ensures c.decided-decision-in-Some-Demo.ensures.some c.decided-decision-in-Some-Demo.ensures.wanting in
+    let decided = decides-last {counts = g.D.Desk.counts} {steady = g.D.Desk.steady} {seen = g.D.Desk.seen} text_of faults 0 (Demonstrates c.in-Some-Demo.fpgas c.in-Some-Demo.nets c.in-Some-Demo.groups) c.args.desk.now c.demo.result c.decided-decision-in-Some-Demo.result c.demo.ensures c.decided-decision-in-Some-Demo.ensures.some c.decided-decision-in-Some-Demo.ensures.wanting in
     let room = has-room _ _ _ _ _ _ _ 2 (omega (arith, ap (λ (ns : List (List ℕ)). length ns) names)) (omega arith) (few-texts request) c.decided-decision-in-Some-Demo.result decided in (
       request,
       is,
