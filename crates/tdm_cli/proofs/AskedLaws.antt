@@ -1,5 +1,5 @@
 -- The status that the files call for is the one of each outcome that they call for, and there is one alone.
-use Rattle.std.proofs.Common.{◌≡◌, ◌⊎◌, ℕ, ◌<◌, ◌≤◌, List, [], ◌∷◌, length, refl, sym, ap, subst, ◌∙◌, inl, inr, arith, Contains}
+use Rattle.std.proofs.Common.{◌≡◌, ℕ, ◌<◌, List, [], ◌∷◌, length, refl, sym, ap, subst, ◌∙◌, arith, Contains}
 use Rattle.std.specs.Prelude.{Option, Some, None, Result, Ok, Err}
 use Rattle.std.specs.FinMap.{get}
 use Rattle.tdm_desk.specs.declared.slots.InSlot.{InSlot}
@@ -10,7 +10,7 @@ use Rattle.tdm_problem.specs.Routing.{Routing}
 use Rattle.solution_eval.specs.declared.judgement.Verdict.{Verdict}
 use Rattle.solution_eval.specs.declared.judgement.Verdict.TheVariants.{Legal, NotJoined, BadRatio, Overfull}
 use Rattle.solution_eval.specs.Verdict.{IsVerdict, SaysLegal}
-use Rattle.tdm_problem.specs.Legal.{IsLegal, AllConnectable}
+use Rattle.tdm_problem.specs.Legal.{IsLegal}
 use Rattle.board_generator.specs.Generated.{generated}
 use Rattle.bound_cert.specs.Certificate.{Cert}
 use Rattle.cert_checker.specs.declared.answer.CheckAnswer.{CheckAnswer}
@@ -23,8 +23,8 @@ use Rattle.tdm_cli.specs.declared.status.Status.{Status}
 use Rattle.tdm_cli.specs.declared.status.Status.TheVariants as status
 use Rattle.tdm_cli.specs.Kinds.{faults, boards, solutions, certificates}
 use Rattle.tdm_cli.specs.Request.{Request, route, eval, check, gen, demo, nothing, inputs_of}
-use Rattle.tdm_cli.specs.Outcomes.{Routes, is_unconnectable, is_over_limit, is_routed, status_of_verdict, Judges, status_of_answer, Checks, Generates, Demonstrates, is_too_large, is_shown, CallsFor}
-use Rattle.tdm_cli.specs.Asked.{SaidFor, FileFor, SomeUnconnectable, RoutingFor, JudgingFor, CheckingFor, ShowingFor, StatusFor}
+use Rattle.tdm_cli.specs.Outcomes.{Routes, is_unconnectable, is_over_limit, is_routed, status_of_verdict, Judges, status_of_answer, Checks, Demonstrates, is_too_large, is_shown, CallsFor}
+use Rattle.tdm_cli.specs.Asked.{SaidFor, FileFor, RoutingFor, JudgingFor, CheckingFor, ShowingFor, StatusFor}
 
 -- ---- each outcome that is called for has the status that the files call for
 

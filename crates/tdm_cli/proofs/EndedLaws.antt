@@ -1,17 +1,16 @@
 -- What the end of a run says, whatever was asked for.
-use Rattle.std.proofs.Common.{◌≡◌, ◌⊎◌, ℕ, ◌<◌, ◌≤◌, ◌+◌, List, [], ◌∷◌, ◌++◌, length, refl, sym, ap, subst, ◌∙◌, inl, inr, arith, drop}
-use Rattle.std.specs.Prelude.{Option, Some, None, option_map}
+use Rattle.std.proofs.Common.{◌≡◌, ◌⊎◌, ◌<◌, ◌≤◌, length, refl, sym, ap, subst, ◌∙◌, inl, inr, arith}
+use Rattle.std.specs.Prelude.{Option, Some, None}
 use Rattle.tdm_desk.specs.declared.slots.InSlot.{InSlot}
-use Rattle.tdm_desk.specs.Files.{Files, Name}
-use Rattle.tdm_desk.specs.Seen.{Seen, files_of, said_of}
+use Rattle.tdm_desk.specs.Files.{Files}
+use Rattle.tdm_desk.specs.Seen.{Seen, files_of}
 use Rattle.tdm_desk.specs.Counts.{Counts, ReadingFailed, WritingFailed, read_counted, read_faults, write_faults, with_read_faults}
-use Rattle.command_run.specs.Slots.{place, KeepsInputsBut, KeepsOutputs, KeepsOutputsBehind, AreClosed}
-use Rattle.command_run.specs.Outcome.{Outcome, HasFailed, with_unread}
-use Rattle.command_run.specs.Inputs.{Content, HoldEach, contents_in, unread}
+use Rattle.command_run.specs.Slots.{place, KeepsOutputsBehind, AreClosed}
+use Rattle.command_run.specs.Outcome.{Outcome, with_unread}
+use Rattle.command_run.specs.Inputs.{HoldEach, contents_in, unread}
 use Rattle.command_run.specs.Decision.{IsCalledFor}
-use Rattle.command_run.specs.Outputs.{Leaves, IsStop, IsPutOut, IsCutOff}
+use Rattle.command_run.specs.Outputs.{IsStop, IsPutOut, IsCutOff}
 use Rattle.command_run.specs.Ends.{RunEnds}
-use Rattle.command_run.proofs.DecisionLaws.{wider}
 use Rattle.command_run.proofs.StatusLaws.{contents-told}
 use Rattle.tdm_cli.specs.declared.status.Status.{Status}
 use Rattle.tdm_cli.specs.declared.status.Status.TheVariants as status
@@ -19,8 +18,8 @@ use Rattle.tdm_cli.specs.Kinds.{faults}
 use Rattle.tdm_cli.specs.Request.{Request, inputs_of, outputs_of}
 use Rattle.tdm_cli.specs.Outcomes.{CallsFor}
 use Rattle.tdm_cli.specs.Asked.{StatusFor, IsOutsideFault}
-use Rattle.tdm_cli.specs.Ended.{TouchesOnly, WritesNothing, ReportsReadFault}
-use Rattle.tdm_cli.proofs.FairLaws.{IsOwn, IsNothing, IsUnread, IsDecided, IsFair, fair}
+use Rattle.tdm_cli.specs.Ended.{ReportsReadFault}
+use Rattle.tdm_cli.proofs.FairLaws.{IsOwn, IsNothing, IsDecided, IsFair, fair}
 use Rattle.tdm_cli.proofs.AskedLaws.{status-for, status-one}
 
 -- a fault of reading leaves the count of writing

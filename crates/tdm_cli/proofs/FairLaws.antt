@@ -1,6 +1,6 @@
 -- What is known of each outcome that a request calls for.
-use Rattle.std.proofs.Common.{◌≡◌, ◌⊎◌, ℕ, ◌≤◌, List, [], ◌∷◌, length, refl, sym, ap, subst, inl, inr, arith}
-use Rattle.std.specs.Prelude.{Some, None, Ok, Err}
+use Rattle.std.proofs.Common.{◌≡◌, ◌⊎◌, ℕ, ◌≤◌, List, [], length, refl, sym, subst, inl, inr, arith}
+use Rattle.std.specs.Prelude.{None}
 use Rattle.tdm_desk.specs.declared.slots.InSlot.{InSlot}
 use Rattle.tdm_desk.specs.declared.slots.InSlot.TheVariants.{In0, In1}
 use Rattle.tdm_desk.specs.Files.{Bytes}

@@ -1,6 +1,6 @@
 -- What is read to its end where a run ends well.
-use Rattle.std.proofs.Common.{◌≡◌, ◌⊎◌, ℕ, ◌<◌, ◌≤◌, ◌+◌, ◌^◌, List, [], ◌∷◌, length, refl, sym, ap, subst, ◌∙◌, inl, inr, arith, drop}
-use Rattle.std.specs.Prelude.{Option, Some, None, Result, Ok, Err, option_map, unwrap_or}
+use Rattle.std.proofs.Common.{◌≡◌, ℕ, ◌≤◌, ◌+◌, ◌^◌, List, [], ◌∷◌, length, refl, sym, ap, ◌∙◌, arith, drop}
+use Rattle.std.specs.Prelude.{Option, Some, None, option_map, unwrap_or}
 use Rattle.std.proofs.lemmas.List.{drop_all}
 use Rattle.std.specs.Option.{ForSome}
 use Rattle.std.specs.FinMap.{get}
@@ -12,7 +12,7 @@ use Rattle.tdm_desk.specs.Counts.{Counts}
 use Rattle.tdm_problem.specs.Board.{Board}
 use Rattle.command_run.specs.Slots.{place, WasRead}
 use Rattle.command_run.specs.Outcome.{Outcome}
-use Rattle.command_run.specs.Inputs.{Input, Content, no_file, unreadable, text, Holds, HoldEach, ByNone}
+use Rattle.command_run.specs.Inputs.{Input, Content, no_file, unreadable, text, HoldEach, ByNone}
 use Rattle.command_run.specs.Ends.{RunEnds}
 use Rattle.command_run.proofs.StatusLaws.{by-input}
 use Rattle.tdm_cli.specs.declared.status.Status.{Status}
@@ -22,7 +22,6 @@ use Rattle.tdm_cli.specs.Request.{Request, route, eval, check, gen, demo, nothin
 use Rattle.tdm_cli.specs.Outcomes.{Routes, Judges, Checks, Generates, Demonstrates, JudgesNext, ChecksNext, CallsFor, refused_words}
 use Rattle.tdm_cli.specs.Ended.{IsReadOut, AreReadOut}
 use Rattle.tdm_cli.proofs.TextLaws.{within-limit}
-use Rattle.tdm_cli.proofs.FairLaws.{IsDecided}
 use Rattle.tdm_cli.proofs.EndedLaws.{ended}
 
 -- a file that is within the limit was read to its end

@@ -1,5 +1,5 @@
 -- Words ask for one request, and what is known of it.
-use Rattle.std.proofs.Common.{◌≡◌, ◌⊎◌, ℕ, ◌≤◌, List, [], ◌∷◌, length, refl, sym, ap, subst, ◌∙◌, inl, inr, arith, codes, take, drop, map}
+use Rattle.std.proofs.Common.{◌≡◌, ◌⊎◌, ℕ, ◌≤◌, List, [], ◌∷◌, length, refl, sym, subst, inl, inr, arith, codes, take, drop, map}
 use Rattle.tdm_desk.specs.Files.{Name}
 use Rattle.command_run.specs.Outcome.{Outcome}
 use Rattle.command_run.specs.Inputs.{Content}

@@ -1,16 +1,10 @@
 -- Which inputs and outputs a run touched, whatever was asked for, and which it read to their ends.
-use Rattle.std.proofs.Common.{◌≡◌, ◌⊎◌, ℕ, ◌<◌, ◌≤◌, ◌+◌, List, [], ◌∷◌, length, refl, sym, ap, subst, ◌∙◌, inl, inr, arith, drop}
-use Rattle.std.specs.Prelude.{Option, Some, None, Result, Ok, Err, option_map, unwrap_or}
-use Rattle.std.proofs.lemmas.List.{drop_all}
-use Rattle.std.specs.Option.{ForSome}
-use Rattle.std.specs.FinMap.{get}
-use Rattle.tdm_desk.specs.declared.slots.InSlot.{InSlot}
-use Rattle.tdm_desk.specs.declared.slots.InSlot.TheVariants.{In0, In1}
-use Rattle.tdm_desk.specs.declared.slots.OutSlot.{OutSlot}
-use Rattle.tdm_desk.specs.Files.{Bytes, Files, Name, bytes_under}
-use Rattle.tdm_desk.specs.Seen.{Seen, files_of, said_of, rest_of}
-use Rattle.tdm_desk.specs.Counts.{Counts, WritingFailed}
-use Rattle.command_run.specs.Slots.{place, KeepsInputsBut, KeepsOutputs, KeepsOutputsBehind, WasRead}
+use Rattle.std.proofs.Common.{◌≡◌, ◌⊎◌, ◌≤◌, List, [], ◌∷◌, length, refl, sym, ap, subst, ◌∙◌, inl, inr, arith}
+use Rattle.std.specs.Prelude.{Option, Some, None, option_map}
+use Rattle.tdm_desk.specs.Files.{Bytes, Files, Name}
+use Rattle.tdm_desk.specs.Seen.{Seen, files_of}
+use Rattle.tdm_desk.specs.Counts.{Counts}
+use Rattle.command_run.specs.Slots.{KeepsOutputsBehind}
 use Rattle.command_run.specs.Outcome.{Outcome}
 use Rattle.command_run.specs.Inputs.{unread}
 use Rattle.command_run.specs.Outputs.{with_files, Leaves, IsPutOut}
@@ -23,9 +17,8 @@ use Rattle.tdm_cli.specs.declared.status.Status.TheVariants as status
 use Rattle.tdm_cli.specs.Kinds.{faults}
 use Rattle.tdm_cli.specs.Request.{Request, inputs_of, outputs_of}
 use Rattle.tdm_cli.specs.Outcomes.{CallsFor}
-use Rattle.tdm_cli.specs.Asked.{IsOutsideFault}
 use Rattle.tdm_cli.specs.Ended.{TouchesOnly, WritesNothing}
-use Rattle.tdm_cli.proofs.FairLaws.{IsUnread, IsDecided, IsFair, fair}
+use Rattle.tdm_cli.proofs.FairLaws.{IsFair, fair}
 use Rattle.tdm_cli.proofs.EndedLaws.{ended}
 
 same : (names : List Name) (files : Option Files) → option_map (with_files names []) files ≡ files

@@ -1,5 +1,5 @@
 -- What the outcome of a run is worth.
-use Rattle.std.proofs.Common.{◌≡◌, ◌⊎◌, ℕ, ◌++◌, List, [], ◌∷◌, refl, sym, ap, subst, ◌∙◌, inl, inr}
+use Rattle.std.proofs.Common.{◌≡◌, ℕ, ◌++◌, List, [], ◌∷◌, refl, sym, ap, subst, ◌∙◌}
 use Rattle.std.specs.Prelude.{Option, Some, None, Result, Ok, Err, option_map}
 use Rattle.std.specs.FinMap.{get}
 use Rattle.tdm_desk.specs.declared.slots.InSlot.{InSlot}
@@ -9,7 +9,6 @@ use Rattle.tdm_desk.specs.Seen.{Seen, files_of, said_of}
 use Rattle.tdm_desk.specs.Counts.{Counts}
 use Rattle.tdm_problem.specs.Board.{Board}
 use Rattle.tdm_problem.specs.Routing.{Routing}
-use Rattle.tdm_problem.specs.Legal.{IsLegal}
 use Rattle.tdm_problem.specs.Value.{value_of}
 use Rattle.contest_input.specs.BoardText.{board_of}
 use Rattle.board_generator.specs.Generated.{generated}
@@ -21,7 +20,7 @@ use Rattle.solution_text.specs.Reading.{solution_of}
 use Rattle.solution_text.specs.Text.{solution_text}
 use Rattle.solution_eval.specs.declared.judgement.Verdict.{Verdict}
 use Rattle.solution_eval.specs.declared.judgement.Verdict.TheVariants.{Legal, NotJoined, BadRatio, Overfull}
-use Rattle.solution_eval.specs.Verdict.{IsVerdict, SaysLegal}
+use Rattle.solution_eval.specs.Verdict.{IsVerdict}
 use Rattle.bound_cert.specs.Certificate.{Cert}
 use Rattle.bound_cert.specs.CertReading.{cert_of}
 use Rattle.bound_cert.specs.CertText.{cert_text}
@@ -45,7 +44,7 @@ use Rattle.tdm_cli.specs.Reports.{route_report, demo_report, verdict_report, ans
 use Rattle.tdm_cli.specs.Outcomes.{comes_to, Routes, is_unconnectable, is_over_limit, is_routed, status_of_verdict, Judges, status_of_answer, Checks, Generates, Demonstrates, is_too_large, is_shown, CallsFor}
 use Rattle.tdm_cli.specs.Asked.{IsOutsideFault}
 use Rattle.tdm_cli.specs.Improved.{IsImproved}
-use Rattle.tdm_cli.specs.Promises.{IsWritten, IsRouted, IsJudged, IsBounded, IsRejected, IsWorth, BoundsHold}
+use Rattle.tdm_cli.specs.Promises.{IsWritten, IsJudged, IsWorth, BoundsHold}
 use Rattle.tdm_cli.proofs.EndedLaws.{ended, told-calls}
 
 -- the bound of a certificate that is accepted for a board is below the value of each legal solution

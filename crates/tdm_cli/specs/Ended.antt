@@ -1,5 +1,5 @@
 -- How the end of a run shows in the desk, whatever was asked for.
-use Rattle.std.specs.Prelude.{◌≡◌, ◌≢◌, ◌++◌, ◌≤◌, ℕ, List, [], ◌∷◌, length, IsTrue, option_map}
+use Rattle.std.specs.Prelude.{◌≡◌, ◌++◌, ◌≤◌, List, [], ◌∷◌, length, IsTrue, option_map}
 use Rattle.std.specs.Option.{ForSome}
 use Rattle.tdm_desk.specs.declared.slots.InSlot.{InSlot}
 use Rattle.tdm_desk.specs.Seen.{Seen, files_of, said_of, rest_of, input_is_open}

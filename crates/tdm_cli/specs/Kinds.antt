@@ -1,7 +1,7 @@
 -- The statuses that runs of all commands have in common, and the kinds of text that commands read.
-use Rattle.std.specs.Prelude.{ℕ, ◌^◌}
+use Rattle.std.specs.Prelude.{◌^◌}
 use Rattle.tdm_desk.specs.declared.slots.InSlot.TheVariants.{In0, In1}
-use Rattle.tdm_desk.specs.Files.{Bytes, Name}
+use Rattle.tdm_desk.specs.Files.{Name}
 use Rattle.tdm_problem.specs.Board.{Board}
 use Rattle.tdm_problem.specs.Routing.{Routing}
 use Rattle.contest_input.specs.declared.fault.BoardRefusal.{BoardRefusal}

@@ -32,7 +32,7 @@ use Rattle.tdm_cli.specs.Baseline.{most_uses}
 use Rattle.tdm_cli.specs.Routing.{IsBaselineValue}
 use Rattle.tdm_cli.specs.Improved.{MeetsBaselineRounds}
 use Rattle.tdm_cli.specs.Reports.{route_report, size_report, demo_report, bound_report, steep_report, verdict_report}
-use Rattle.tdm_cli.specs.Request.{Request, route, eval, check, gen, demo, nothing}
+use Rattle.tdm_cli.specs.Request.{Request, route, eval, check, gen, demo}
 
 -- the file of this name is there and is the text of this board
 abbrev pub Describes : Files → Name → Board → Type 0

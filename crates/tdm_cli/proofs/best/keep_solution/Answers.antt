@@ -1,5 +1,4 @@
-use Rattle.std.proofs.Common.{ap, sym, ◌∙◌, subst, arith}
-use Rattle.tdm_problem.specs.Routing.{Routing}
+use Rattle.std.proofs.Common.{ap, sym, ◌∙◌, arith}
 use Rattle.tdm_problem.specs.Trees.{trees_of}
 use Rattle.tdm_problem.specs.Value.{largest, value_of}
 use Rattle.tdm_cli.proofs.BestLaws.{IsBest-on_trees, JoinsEachNet-minimal}

@@ -1,4 +1,4 @@
-use Rattle.std.proofs.Common.{◌<◌, ◌≤◌, arith}
+use Rattle.std.proofs.Common.{arith}
 use Rattle.tdm_cli.proofs.WordLaws.{sizes-are}
 use Rattle.tdm_cli.proofs.command.parse_sizes.Goals as goal
 use Rattle.tdm_cli.proofs.command.parse_sizes.Goals.{then-fpgas-lt2-via-then-fpgas-lt2, then-fpgas-lt2-via-else-fpgas-lt2+then-nets-lt1}

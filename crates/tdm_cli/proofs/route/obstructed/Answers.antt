@@ -1,7 +1,6 @@
 use Rattle.std.proofs.Common.{[], ap, ◌∙◌}
 use Rattle.tdm_cli.specs.declared.status.Status.TheVariants as status
 use Rattle.tdm_cli.specs.Reports.{unconnectable_report}
-use Rattle.tdm_cli.specs.Obstacle.{ObstacleShows}
 use Rattle.tdm_cli.specs.Outcomes.{comes_to, is_unconnectable, is_over_limit}
 use Rattle.tdm_cli.proofs.route.obstructed.Goals as goal
 

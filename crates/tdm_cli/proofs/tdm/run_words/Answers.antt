@@ -1,4 +1,4 @@
-use Rattle.std.proofs.Common.{◌≡◌, ◌≤◌, ℕ, List, [], ◌∷◌, length, map, refl, sym, ap, subst, ◌∙◌, arith, string_bytes}
+use Rattle.std.proofs.Common.{◌≡◌, ℕ, List, [], length, map, ap, subst, ◌∙◌, arith, string_bytes}
 use Rattle.std.proofs.lemmas.List.{length-map}
 use Rattle.command_run.specs.Ends.{RunEnds}
 use Rattle.command_run.proofs.DecisionLaws.{decides-last}
@@ -6,7 +6,7 @@ use Rattle.command_run.proofs.EndsLaws.{run-ends}
 use Rattle.command_run.proofs.StatusLaws.{has-room}
 use Rattle.tdm_cli.specs.Kinds.{faults}
 use Rattle.tdm_cli.specs.Texts.{text_of}
-use Rattle.tdm_cli.specs.Request.{Request, route, eval, check, gen, demo, nothing, inputs_of}
+use Rattle.tdm_cli.specs.Request.{route, eval, check, gen, demo, nothing, inputs_of}
 use Rattle.tdm_cli.specs.Outcomes.{CallsFor, Generates, Demonstrates, refused_words}
 use Rattle.tdm_cli.proofs.RequestLaws.{few-texts, names-behind, names-last}
 use Rattle.tdm_cli.proofs.tdm.run_words.Goals as goal
