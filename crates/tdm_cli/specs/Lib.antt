@@ -17,3 +17,4 @@ pub mod Outcomes
 pub mod Asked
 pub mod Promises
 pub mod Ended
+pub mod TwoRounds

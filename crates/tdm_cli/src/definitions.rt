@@ -1,12 +1,17 @@
-//! The words that are commands, the reports and the codes, computed.
-ghost use Rattle.std.specs.Prelude.{◌≡◌, [], ◌∷◌, codes};
-ghost use Rattle.tdm_problem.specs.Samples.{star};
+//! The words that are commands, the reports, the codes and two rounds, computed.
+ghost use Rattle.std.specs.Prelude.{◌≡◌, ◌<◌, ◌^◌, [], ◌∷◌, codes};
+ghost use Rattle.tdm_problem.specs.Loads.{load_cost};
+ghost use Rattle.tdm_problem.specs.Roots.{IsRoot};
+ghost use Rattle.tdm_problem.specs.Samples.{star, use_at};
+ghost use Rattle.tdm_problem.specs.Weights.{net_weight};
 ghost use Rattle.cert_checker.specs.declared.answer.CheckAnswer.TheVariants.{Accepted, Rejected};
 ghost use Rattle.solution_eval.specs.declared.judgement.Verdict.TheVariants.{BadRatio, Legal, NotJoined, Overfull};
 ghost use Rattle.command_run.specs.Reports.{no_input_report, read_fault_report};
 ghost use Rattle.tdm_cli.specs.Code.{code_of};
 ghost use Rattle.tdm_cli.specs.declared.status.Status.TheVariants.{BoardRefused, CertRefused, CertRejected, Illegal, NoInput, Ok, OutOfMemory, ReadFault, SolutionRefused, Unconnectable, Usage, UseLimit, WriteFault};
 ghost use Rattle.tdm_cli.specs.Reports.{answer_report, board_refused_report, cert_refused_report, route_report, size_report, solution_refused_report, unconnectable_report, usage_report, use_limit_report, verdict_report};
+ghost use Rattle.tdm_cli.specs.Rounds.{first_weights, next_of, round_length, round_value, solution_of_round};
+ghost use Rattle.tdm_cli.specs.TwoRounds.{first_round, second_round, four_on_two};
 ghost use Rattle.tdm_cli.specs.Words.{IsCommand, IsEval, IsRoute};
 
 /// Each verb takes its number of names, none of them empty, and an output may bear the input's name, but not that of
@@ -63,4 +68,23 @@ fn statuses_have_codes()
     ensures cert_rejected { code_of CertRejected ≡ 10 }
     ensures use_limit { code_of UseLimit ≡ 11 }
     ensures no_input { code_of NoInput ≡ 14 }
+{}
+
+/// In the first round three of four nets that weigh the same share a wire, and their groups' sums are twice that of the fourth.
+/// So in the second round they weigh twice as much, and one of them moves to the fourth net's wire, of which it gets more.
+fn rounds_weigh_move_and_share()
+    ensures weights { first_weights four_on_two ≡ first_round.weights }
+    ensures root { IsRoot (net_weight four_on_two.groups first_round.weights 2) 1024 }
+    ensures ratios { solution_of_round four_on_two first_round
+        ≡ (use_at 0 4 ∷ []) ∷ (use_at 0 4 ∷ []) ∷ (use_at 0 4 ∷ []) ∷ (use_at 1 2 ∷ []) ∷ [] }
+    ensures value { round_value four_on_two first_round ≡ 4 }
+    ensures length { round_length four_on_two first_round 0 ≡ 3072 }
+    ensures next_weights { next_of four_on_two first_round ≡ second_round.weights }
+    ensures next_root { IsRoot (net_weight four_on_two.groups second_round.weights 3) 741455 }
+    ensures moved { load_cost four_on_two second_round.trees second_round.numbers
+        < load_cost four_on_two first_round.trees second_round.numbers }
+    ensures next_ratios { solution_of_round four_on_two second_round
+        ≡ (use_at 1 2 ∷ []) ∷ (use_at 0 2 ∷ []) ∷ (use_at 0 2 ∷ []) ∷ (use_at 1 4 ∷ []) ∷ [] }
+    ensures next_value { round_value four_on_two second_round ≡ 4 }
+    ensures next_length { round_length four_on_two second_round 1 ≡ 1790031 }
 {}
