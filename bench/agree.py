@@ -1,4 +1,5 @@
-"""Whether `gen` and then `route`, `eval` and `check` agree with `demo` of the same numbers, byte for byte.
+"""Whether `gen` and then `route`, `eval` and `check` agree with `demo` of the same numbers, and two runs of `demo` with one
+another, byte for byte.
 
 python3 bench/agree.py PROGRAM [FOLDER]
 
@@ -39,6 +40,10 @@ def agree(program, folder, numbers):
     value, bound = routed.splitlines(keepends=True)
     same("values", run(program, "eval", board, solution), value)
     same("bounds", run(program, "check", board, cert), bound)
+    again_solution, again_cert = (folder / f"again.{kind}" for kind in ("solution", "cert"))
+    same("second reports", run(program, "demo", *numbers, again_solution, again_cert), shown)
+    same("second solutions", again_solution.read_bytes(), shown_solution.read_bytes())
+    same("second certificates", again_cert.read_bytes(), shown_cert.read_bytes())
     print(shown, end="")
 
 
@@ -46,6 +51,7 @@ def main():
     program = sys.argv[1]
     folder = pathlib.Path(sys.argv[2] if len(sys.argv) > 2 else tempfile.mkdtemp())
     folder.mkdir(parents=True, exist_ok=True)
+    agree(program, folder, (64, 2000, 500))
     agree(program, folder, (300, 20000, 20000))
     begun = time.monotonic()
     print(run(program, "gen", 4096, 1048576, 1048576, folder / "largest.board"), end="")
