@@ -1,6 +1,6 @@
 use Rattle.std.proofs.Common.{refl, ◌≡◌, ◌≢◌, ℕ, ◌<◌, List, [], ◌∷◌, length, codes, ap, subst, sym, ◌∙◌, arith, rules}
 use Rattle.std.specs.Prelude.{slice_index_or}
-use Rattle.tdm_cli.specs.Words.{is_route, is_eval, is_check}
+use Rattle.tdm_cli.specs.Words.{is_route, is_eval, is_check, is_gen, is_demo}
 use Rattle.tdm_cli.proofs.definitions.verbs_take_names.Goals as goal
 
 -- the first letter of the first word
