@@ -1,8 +1,8 @@
 #!/usr/bin/env bash
 # Puts the program at PREFIX/bin/tdm and its page at PREFIX/share/man/man1/tdm.1.
 # usage: ./install.sh [PREFIX]    PREFIX is $HOME/.local if it is left out
-# The program is the one that `rt ci` or an earlier ./install.sh left in this checkout, where no source is newer than it; else
-# it is proved and built first.
+# The program is the one that `rt ci` or an earlier ./install.sh left in this checkout, where no source is newer than it;
+# else it is proved and built first.
 set -euo pipefail
 if [ $# -gt 1 ] || [[ "${1:-}" == -* ]]; then
     echo "usage: ./install.sh [PREFIX]" >&2
@@ -22,7 +22,7 @@ if is_current; then
     echo "taking the program that stands in this checkout, which was built from a proof of these sources"
 else
     if ! command -v rt >/dev/null; then
-        echo "install.sh: there is no command rt: put the bin folder of the Rattle kit on the PATH (README.md, \"Install\")" >&2
+        echo "install.sh: no command rt: put the bin folder of the Rattle kit on the PATH (README.md, \"Install\")" >&2
         exit 1
     fi
     echo "proving and building the program with $(rt version): from nothing this takes a quarter of an hour and more,"

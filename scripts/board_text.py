@@ -1,4 +1,7 @@
-"""Reads boards and solutions for the scripts beside it, by the layouts of docs/TEXTS.md. It refuses less than `tdm` does."""
+"""Reads boards and solutions for the scripts beside it, by the layouts of docs/TEXTS.md.
+
+It refuses less than `tdm` does.
+"""
 import sys
 from typing import NamedTuple
 

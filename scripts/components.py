@@ -3,8 +3,8 @@
 
 usage: components.py BOARD
 
-The first line says how many parts there are. Then comes a line for each part with at least two FPGAs, one line for all FPGAs
-without a wire, and a line for each net that no wires can join, with its FPGAs part by part. Python's standard library is enough.
+The first line says how many parts there are. Then comes a line for each part with at least two FPGAs, one line for all
+FPGAs without a wire, and a line for each net that no wires can join, with its FPGAs part by part.
 """
 import sys
 
@@ -65,7 +65,8 @@ def main():
             of_part = {}
             for fpga in sorted(net):
                 of_part.setdefault(part[fpga], []).append(fpga)
-            print(f"net {number}: " + ", ".join(f"{ranges(fpgas)} in part {it}" for it, fpgas in sorted(of_part.items())))
+            told = [f"{ranges(fpgas)} in part {it}" for it, fpgas in sorted(of_part.items())]
+            print(f"net {number}: {', '.join(told)}")
     return 0
 
 

@@ -3,10 +3,11 @@
 
 usage: picture.py BOARD SOLUTION OUT.svg
 
-A wire is the redder the fuller it is (the sum of the reciprocals of its ratios), the wider the more nets use it, and grey where none
-does. The nets of the worst group, whose sum is the value, are marked: a blue line along each wire that they use, and a blue ring around
-their FPGAs. A browser shows the numbers of a wire or an FPGA under the pointer. Up to 300 FPGAs are placed so that wires are short, more on
-a circle in the order of their numbers. Sums are in floating point here; `tdm eval` is the judge. Python's standard library is enough.
+A wire is the redder the fuller it is (the sum of the reciprocals of its ratios), the wider the more nets use it, and
+grey where none does. The nets of the worst group, whose sum is the value, are marked: a blue line along each wire that
+they use, and a blue ring around their FPGAs. A browser shows the numbers of a wire or an FPGA under the pointer. Up to
+300 FPGAs are placed so that wires are short, more on a circle in the order of their numbers. Sums are in floating point
+here; `tdm eval` is the judge.
 """
 import math
 import sys
@@ -18,7 +19,7 @@ MOST_PLACED = 300
 
 
 def places_of(board):
-    """A place for each FPGA: first on a circle, then moved by springs along the wires while all FPGAs push each other away."""
+    """A place for each FPGA: first on a circle, then moved by springs along wires while FPGAs push each other away."""
     n = max(board.fpgas, 1)
     places = [complex(math.cos(2 * math.pi * i / n), math.sin(2 * math.pi * i / n)) for i in range(board.fpgas)]
     if not 3 < board.fpgas <= MOST_PLACED:
@@ -97,20 +98,24 @@ def drawing(board, solution):
         told = f"wire {wire}: FPGAs {a} and {b}, {users[wire]} nets, {full[wire]:.4f} full"
         lines.append(f'<path d="{path}" stroke="{shade}" stroke-width="{width:.1f}"><title>{told}</title></path>')
         if wire in marked_wires:
-            marks.append(f'<path d="{path}" stroke="#1040d0" stroke-width="{max(2.5, widest / 2):.1f}" stroke-dasharray="8 4"/>')
+            width = max(2.5, widest / 2)
+            marks.append(f'<path d="{path}" stroke="#1040d0" stroke-width="{width:.1f}" stroke-dasharray="8 4"/>')
     radius = max(3, min(16, 160 / math.sqrt(board.fpgas or 1)))
     dots = []
     for fpga, (x, y) in enumerate(at):
         ring = ' stroke="#1040d0" stroke-width="3"' if fpga in marked_fpgas else ' stroke="#404040"'
-        dots.append(f'<circle cx="{x:.1f}" cy="{y:.1f}" r="{radius:.1f}" fill="white"{ring}><title>FPGA {fpga}</title></circle>')
+        circle = f'<circle cx="{x:.1f}" cy="{y:.1f}" r="{radius:.1f}" fill="white"{ring}>'
+        dots.append(f"{circle}<title>FPGA {fpga}</title></circle>")
         if radius >= 7:
             dots.append(f'<text x="{x:.1f}" y="{y + radius / 3:.1f}" font-size="{radius * 0.9:.1f}">{fpga}</text>')
-    head = f"{board.fpgas} FPGAs, {len(board.wires)} wires, {len(board.nets)} nets, {len(board.groups)} groups: value {value}"
+    sizes = f"{board.fpgas} FPGAs, {len(board.wires)} wires, {len(board.nets)} nets, {len(board.groups)} groups"
+    head = f"{sizes}: value {value}"
     if sums:
         head += f", which group {worst} has with {len(nets)} net{'s' * (len(nets) != 1)}"
     return "\n".join(
         [
-            f'<svg xmlns="http://www.w3.org/2000/svg" viewBox="0 0 {SIZE} {SIZE + 30}" font-family="sans-serif" text-anchor="middle">',
+            f'<svg xmlns="http://www.w3.org/2000/svg" viewBox="0 0 {SIZE} {SIZE + 30}"',
+            ' font-family="sans-serif" text-anchor="middle">',
             '<rect width="100%" height="100%" fill="white"/>',
             f'<text x="{SIZE / 2}" y="{SIZE + 15}" font-size="18">{head}</text>',
             '<g fill="none" stroke-opacity="0.7">',

@@ -7,9 +7,10 @@ usage: reached.py                 prints the tables of docs/AUDIT.md
        reached.py --unreached     prints the definitions of specs/ that no clause of `tdm` reaches
        reached.py --why NAME      prints one way from a clause to each definition of this name
 
-A definition is a `record`, `data`, `abbrev` or `unfoldable` of a file in specs/, or a struct or enum of a file in src/ that these
-cite. It reaches each name that it mentions, as its file imports or defines it; of a name that it binds itself nothing is reached.
-Lines of a definition are counted without its comments. This is no part of the tests, and needs Python's standard library alone.
+A definition is a `record`, `data`, `abbrev` or `unfoldable` of a file in specs/, or a struct or enum of a file in src/
+that these cite. It reaches each name that it mentions, as its file imports or defines it; of a name that it binds
+itself nothing is reached. Lines are counted without comments. This is no part of the tests, and needs Python's standard
+library alone.
 """
 import re
 import sys
@@ -21,13 +22,16 @@ PAGE = TOP / "docs" / "AUDIT.md"
 ENTRY = TOP / "crates" / "tdm_cli" / "src" / "tdm.rt"
 DESK = TOP / "crates" / "tdm_desk" / "src" / "calls.rt"
 
-# The steps in which the page is read: a title, and the definitions that lead to all of the step. Each step has what these reach and
-# no earlier step has; the last has all the rest.
+# The steps in which the page is read: a title, and the definitions that lead to all of the step. Each step has what
+# these reach and no earlier step has; the last has all the rest.
 STEPS = [
     ("legality", ["IsLegal", "value_of"]),
     ("bound", ["IsValid", "IsBound", "bound_of", "IsLowerBound"]),
     ("texts", ["board_of", "solution_of", "cert_of", "board_text", "solution_text", "cert_text"]),
-    ("promises", ["IsTight", "IsMinimalTree", "MeetsBaselineRounds", "IsBaselineValue", "IsHopFloor", "IsShareFloor", "generated"]),
+    (
+        "promises",
+        ["IsTight", "IsMinimalTree", "MeetsBaselineRounds", "IsBaselineValue", "IsHopFloor", "IsShareFloor", "generated"],
+    ),
     ("run", None),
 ]
 
@@ -35,7 +39,9 @@ Definition = namedtuple("Definition", "key name file line lines sentence refs hi
 
 IDENTIFIER = r"[A-Za-z_][\w']*"
 TYPE = re.compile(r"^(?:pub(?:\(crate\))? )?(?:struct|enum) (\w+)", re.M)
-START = re.compile(rf"^(\s*)(?:(?:abbrev|unfoldable)\s+(?:pub\s+)?(\S+)\s*:|(?:pub\s+)?(?:record|data)\s+({IDENTIFIER}))")
+START = re.compile(
+    rf"^(\s*)(?:(?:abbrev|unfoldable)\s+(?:pub\s+)?(\S+)\s*:|(?:pub\s+)?(?:record|data)\s+({IDENTIFIER}))"
+)
 USE = re.compile(r"^\s*(?:ghost\s+)?use\s+(Rattle[\w.]*?)(?:\.\{(.*)\}|\s+as\s+(\w+))?;?\s*$")
 
 
@@ -66,8 +72,8 @@ def module_of(path):
 
 
 def blocks_of(path):
-    """Each definition of a file: its name, its first line, its lines with their comments, the sentence above it, and the heads of
-    the modules around it."""
+    """Each definition of a file: its name, its first line, its lines with their comments, the sentence above it, and the
+    heads of the modules around it."""
     lines = path.read_text(encoding="utf-8").splitlines()
     comment, heads, number = [], [], 0
     while number < len(lines):
@@ -138,7 +144,8 @@ class Sources:
 
     def add_types(self, path):
         """Structs and enums of the code, which specs/ imports from a module `declared`."""
-        crate, inside = path.relative_to(TOP / "crates").parts[0], path.relative_to(TOP / "crates").with_suffix("").parts[2:]
+        parts = path.relative_to(TOP / "crates").with_suffix("").parts
+        crate, inside = parts[0], parts[2:]
         lines = path.read_text(encoding="utf-8").splitlines()
         for at, line in enumerate(lines):
             found = TYPE.match(line)
@@ -330,7 +337,9 @@ def sections(sources):
     for it in std:
         module, _, name = it.rpartition(".")
         modules.setdefault(module, []).append(name)
-    made["std"] = [f"- `{module}`: {', '.join(f'`{it}`' for it in sorted(names))}" for module, names in sorted(modules.items())]
+    made["std"] = ["| module | names |", "|---|---|"]
+    for module, names in sorted(modules.items()):
+        made["std"].append(f"| `{module}` | {', '.join(f'`{it}`' for it in sorted(names))} |")
     return made
 
 

@@ -14,7 +14,7 @@ from pathlib import Path
 
 SCRIPTS = Path(__file__).resolve().parent
 EXAMPLES = SCRIPTS.parent / "examples"
-PROGRAM = os.path.abspath(sys.argv.pop(1)) if len(sys.argv) > 1 and os.path.exists(sys.argv[1]) else shutil.which("tdm") or "tdm"
+PROGRAM = os.path.abspath(sys.argv.pop(1)) if sys.argv[1:] else shutil.which("tdm") or "tdm"
 
 
 def ran(script, *words):
@@ -65,8 +65,13 @@ class Components(unittest.TestCase):
         with tempfile.TemporaryDirectory() as folder:
             board = Path(folder) / "board"
             board.write_text("5 1 1 0\n1 2\n3 0 4\n")
-            wanted = "parts 4\npart 1: 2 FPGAs, 1 wires: 1-2\nwithout a wire: 0, 3-4\nnet 0: 0 in part 0, 3 in part 2, 4 in part 3\n"
-            self.assertEqual(ran("components.py", board), (0, wanted))
+            wanted = [
+                "parts 4",
+                "part 1: 2 FPGAs, 1 wires: 1-2",
+                "without a wire: 0, 3-4",
+                "net 0: 0 in part 0, 3 in part 2, 4 in part 3",
+            ]
+            self.assertEqual(ran("components.py", board), (0, "\n".join(wanted) + "\n"))
 
     def test_a_broken_board_is_refused(self):
         self.assertEqual(ran("components.py", example("broken.board"))[0], 1)

@@ -1,8 +1,8 @@
 #!/usr/bin/env bash
 # Judges a solution and a certificate of a board, and says value, bound and value/bound in one line.
 # usage: verify.sh BOARD SOLUTION CERT    TDM is the program: tdm, found on the PATH, where it is not set
-# The status is 0 only where `eval` finds the solution legal and `check` finds the certificate valid; 1 where one of them
-# does not, and 2 where the words are wrong or there is no program.
+# The status is 0 only where `eval` finds the solution legal and `check` finds the certificate valid; 1 where one of
+# them does not, and 2 where the words are wrong or there is no program.
 set -u
 if [ $# -ne 3 ]; then
     echo "usage: verify.sh BOARD SOLUTION CERT" >&2
