@@ -1,7 +1,7 @@
 #!/usr/bin/env bash
 # Puts the program at PREFIX/bin/tdm and its page at PREFIX/share/man/man1/tdm.1.
 # usage: ./install.sh [PREFIX]    PREFIX is $HOME/.local if it is left out
-# The program is the one that `rt ci` or an earlier ./install.sh left in this checkout, where no source is newer than it;
+# The program is the one that `rt ci` or an earlier ./install.sh left in this checkout, where no source is newer;
 # else it is proved and built first.
 set -euo pipefail
 if [ $# -gt 1 ] || [[ "${1:-}" == -* ]]; then

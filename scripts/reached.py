@@ -9,8 +9,8 @@ usage: reached.py                 prints the tables of docs/AUDIT.md
 
 A definition is a `record`, `data`, `abbrev` or `unfoldable` of a file in specs/, or a struct or enum of a file in src/
 that these cite. It reaches each name that it mentions, as its file imports or defines it; of a name that it binds
-itself nothing is reached. Lines are counted without comments. This is no part of the tests, and needs Python's standard
-library alone.
+itself nothing is reached, and at a name that is neither the script stops. Lines are counted without comments. This is
+no part of the tests, and needs Python's standard library alone.
 """
 import re
 import sys
@@ -30,19 +30,21 @@ STEPS = [
     ("texts", ["board_of", "solution_of", "cert_of", "board_text", "solution_text", "cert_text"]),
     (
         "promises",
-        ["IsTight", "IsMinimalTree", "MeetsBaselineRounds", "IsBaselineValue", "IsHopFloor", "IsShareFloor", "generated"],
+        ["IsTight", "IsMinimalTree", "MeetsBaselineRounds", "IsBaselineValue", "IsHopFloor", "IsShareFloor"]
+        + ["generated"],
     ),
     ("run", None),
 ]
 
-Definition = namedtuple("Definition", "key name file line lines sentence refs hidden")
+Definition = namedtuple("Definition", "key name file line lines sentence refs")
 
 IDENTIFIER = r"[A-Za-z_][\w']*"
 TYPE = re.compile(r"^(?:pub(?:\(crate\))? )?(?:struct|enum) (\w+)", re.M)
 START = re.compile(
     rf"^(\s*)(?:(?:abbrev|unfoldable)\s+(?:pub\s+)?(\S+)\s*:|(?:pub\s+)?(?:record|data)\s+({IDENTIFIER}))"
 )
-USE = re.compile(r"^\s*(?:ghost\s+)?use\s+(Rattle[\w.]*?)(?:\.\{(.*)\}|\s+as\s+(\w+))?;?\s*$")
+KEYWORDS = set("abbrev data do elim else if in let module pub record then Type unfoldable Unit where".split())
+USE = re.compile(r"^\s*(?:pub\s+|ghost\s+)?use\s+(Rattle[\w.]*?)(?:\.\{(.*)\}|\s+as\s+(\w+))?;?\s*$")
 
 
 def imports_of(text):
@@ -67,13 +69,14 @@ def without_comments(line):
 
 
 def module_of(path):
+    """The module that a file of specs/ is."""
     parts = path.relative_to(TOP / "crates").with_suffix("").parts
     return ".".join(("Rattle", parts[0], "specs") + parts[2:])
 
 
 def blocks_of(path):
-    """Each definition of a file: its name, its first line, its lines with their comments, the sentence above it, and the
-    heads of the modules around it."""
+    """Each definition of a file: its name, its first line, its lines, the sentence above it, and the heads of the
+    modules around it."""
     lines = path.read_text(encoding="utf-8").splitlines()
     comment, heads, number = [], [], 0
     while number < len(lines):
@@ -112,7 +115,8 @@ def words_bound(name, lines, is_constructor):
     fields = set(re.findall(rf"(?:[{{;]\s*|^\s+)({IDENTIFIER})\s*=(?!=)", text, re.M))
     fields.update(re.findall(rf"^\s+(?:pub\s+)?({IDENTIFIER})\s*:", text, re.M))
     for line in lines:
-        left = re.match(rf"^\s*{re.escape(name)}((?:\s+[^=]*)?)\s=(?:\s|$)", line)
+        head = rf"{re.escape(name)}((?:\s+[^=]*)?)" if "◌" not in name else r"(\(.*)"
+        left = re.match(rf"^\s*{head}\s=(?:\s|$)", line)
         for word in re.findall(IDENTIFIER + r"(?:\.\w+)?", left[1] if left else ""):
             if not is_constructor(word):
                 bound.add(word)
@@ -123,7 +127,7 @@ class Sources:
     """All definitions of the repository, and what each mentions."""
 
     def __init__(self):
-        self.definitions, self.constructors, self.raw = {}, {}, []
+        self.definitions, self.constructors, self.raw, self.unknown, self.lost = {}, {}, [], {}, set()
         for path in sorted((TOP / "crates").glob("*/specs/**/*.antt")):
             if path.name != "Lib.antt":
                 self.add_specs(path)
@@ -200,19 +204,17 @@ class Sources:
             if first in modules:
                 return True
             module_there, there = names.get(first, (module, first))
-            is_known = module_there.startswith("Rattle.std.") or (module_there, there) in self.constructors
-            return is_known or module_there.endswith(".TheVariants") or first[:1].isupper()
+            is_of_std = first in names and module_there.startswith("Rattle.std.")
+            return is_of_std or module_there.endswith(".TheVariants") or (module_there, there) in self.constructors
 
-        bound, fields = words_bound(name, code, is_constructor)
-        refs, hidden = set(), set()
+        bound, fields = words_bound(name, heads + code, is_constructor)
+        refs = set()
         for word in re.findall(rf"(?<![\w'.]){IDENTIFIER}(?:\.{IDENTIFIER})*", text):
             meant = self.meaning(word, module, names, modules)
-            if not meant or meant == key:
-                continue
             first = word.partition(".")[0]
-            if first in bound or (first in fields and self.is_field_only(first, code)):
-                hidden.add((first, meant))
-            else:
+            if not meant and path.suffix == ".antt" and first not in bound | fields | KEYWORDS | {name, "_"}:
+                self.unknown.setdefault(key, set()).add(first)
+            if meant and not (first in bound or first in fields and self.is_field_only(first, code)):
                 refs.add(meant)
         for operator, origin in list(names.items()) + [(it[1], it) for it in self.own if it[0] == module]:
             signs = [it for it in operator.split("◌") if it]
@@ -221,7 +223,7 @@ class Sources:
                 refs.add(self.resolve(*origin))
         count = sum(1 for it in code if it.strip())
         at = path.relative_to(TOP).as_posix()
-        self.definitions[key] = Definition(key, name, at, line, count, sentence, refs - {key}, hidden)
+        self.definitions[key] = Definition(key, name, at, line, count, sentence, refs - {key})
 
     @staticmethod
     def is_field_only(word, code):
@@ -245,8 +247,6 @@ class Sources:
                 elif it not in self.definitions:
                     self.lost.add((at, it))
         return come, std
-
-    lost = set()
 
 
 def clauses_of_tdm(sources):
@@ -297,7 +297,7 @@ def steps_of(sources, clauses):
 
 
 def order_of(definitions):
-    """Files by how many other files of the step stand below them, fewest first, and the definitions of a file in order."""
+    """Files by how many other files of the step stand below them, fewest first; the definitions of a file in order."""
     file_of = {it.key: it.file for it in definitions}
     below = {it.file: set() for it in definitions}
     for it in definitions:
@@ -315,7 +315,7 @@ def table_of(definitions):
         if it.file not in files:
             files.append(it.file)
             mine = sum(other.lines for other in definitions if other.file == it.file)
-            rows.append(f"| **[{it.file.removeprefix('crates/')}](../{it.file})** | | {mine} |")
+            rows.append(f"| **[{it.file[len('crates/') :]}](../{it.file})** | | {mine} |")
         sentence = it.sentence.replace("|", "\\|") or "(no words of its own)"
         rows.append(f"| `{it.name}` | {sentence} | {it.lines} |")
     return rows
@@ -357,22 +357,17 @@ def page_with(made, text):
 def main():
     words, sources = sys.argv[1:], Sources()
     made = sections(sources)
-    if sources.lost:
-        sys.exit(f"reached.py: not found: {sorted(sources.lost)}")
+    whole = steps_of(sources, clauses_of_tdm(sources))[2]
+    unknown = sorted((it[1], words) for it, words in sources.unknown.items() if it in whole)
+    if sources.lost or unknown:
+        sys.exit(f"reached.py: not found: {sorted(sources.lost)} {unknown}")
     if not words:
         print("\n\n".join(f"{title}\n" + "\n".join(rows) for title, rows in made.items()))
-    elif words == ["--hidden"]:
-        whole = steps_of(sources, clauses_of_tdm(sources))[2]
-        for key in sorted(whole):
-            for word, meant in sorted(sources.definitions[key].hidden):
-                print(key[0], key[1], word, meant)
     elif words == ["--unreached"]:
-        whole = steps_of(sources, clauses_of_tdm(sources))[2]
         for it in sorted(sources.definitions.values(), key=lambda it: (it.file, it.line)):
             if "/specs/" in it.file and it.key not in whole:
                 print(f"{it.file}:{it.line}: {it.name}")
     elif words[:1] == ["--why"] and len(words) == 2:
-        whole = steps_of(sources, clauses_of_tdm(sources))[2]
         for key in sorted(it for it in whole if it[1] == words[1]):
             way = [key]
             while whole[way[-1]]:
