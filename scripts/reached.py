@@ -36,6 +36,9 @@ STEPS = [
     ("run", None),
 ]
 
+# The definitions whose text stands on the page: what `bounds_hold` says.
+HEADLINE = ["BoundsHold", "IsLowerBound"]
+
 Definition = namedtuple("Definition", "key name file line lines sentence refs")
 
 IDENTIFIER = r"[A-Za-z_][\w']*"
@@ -310,15 +313,25 @@ def order_of(definitions):
 
 def table_of(definitions):
     """Rows of one step: file by file the definitions, what they say, and their lines."""
-    rows, files = ["| definition | what it says | lines |", "|---|---|---|"], []
+    rows, files = ["| definition | what it says | at line | lines |", "|---|---|---|---|"], []
     for it in definitions:
         if it.file not in files:
             files.append(it.file)
             mine = sum(other.lines for other in definitions if other.file == it.file)
-            rows.append(f"| **[{it.file[len('crates/') :]}](../{it.file})** | | {mine} |")
+            rows.append(f"| **[{it.file[len('crates/') :]}](../{it.file})** | | | {mine} |")
         sentence = it.sentence.replace("|", "\\|") or "(no words of its own)"
-        rows.append(f"| `{it.name}` | {sentence} | {it.lines} |")
+        rows.append(f"| `{it.name}` | {sentence} | {it.line} | {it.lines} |")
     return rows
+
+
+def headline_of(sources, whole):
+    """The text of the definitions that say what the bound is worth."""
+    rows = ["```"]
+    for name in HEADLINE:
+        found = next(sources.definitions[it] for it in whole if it[1] == name)
+        lines = (TOP / found.file).read_text(encoding="utf-8").splitlines()[found.line - 1 :]
+        rows += lines[: lines.index("") if "" in lines else len(lines)] + [""]
+    return rows[:-1] + ["```"]
 
 
 def sections(sources):
@@ -331,7 +344,7 @@ def sections(sources):
     total.append(f"| the clauses of `tdm` | {len(clauses)} clauses | {sum(it[1] for it in clauses)} |")
     total += [f"| {title} | {number} | {lines} |" for title, number, lines in counts]
     total.append(f"| the trait of desks | | {trait} |")
-    made = {"counts": total}
+    made = {"counts": total, "headline": headline_of(sources, whole)}
     made.update({title: table_of(found) for title, found in steps})
     modules = {}
     for it in std:
