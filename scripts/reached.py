@@ -324,6 +324,16 @@ def table_of(definitions):
     return rows
 
 
+def beside_of(sources, whole):
+    """The definitions that are not reached and stand in a file with some that are."""
+    files = {sources.definitions[it].file for it in whole}
+    rows, names = ["| file | reached by no clause |", "|---|---|"], {}
+    for it in sorted(sources.definitions.values(), key=lambda it: (it.file, it.line)):
+        if it.key not in whole and it.file in files and "/specs/" in it.file:
+            names.setdefault(it.file, []).append(f"`{it.name}`")
+    return rows + [f"| {file[len('crates/') :]} | {', '.join(found)} |" for file, found in names.items()]
+
+
 def headline_of(sources, whole):
     """The text of the definitions that say what the bound is worth."""
     rows = ["```"]
@@ -346,6 +356,7 @@ def sections(sources):
     total.append(f"| the trait of desks | | {trait} |")
     made = {"counts": total, "headline": headline_of(sources, whole)}
     made.update({title: table_of(found) for title, found in steps})
+    made["beside"] = beside_of(sources, whole)
     modules = {}
     for it in std:
         module, _, name = it.rpartition(".")
