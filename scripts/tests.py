@@ -4,6 +4,7 @@
 PROGRAM is the built `tdm`, and the one on the PATH where it is left out. A test is a class for each script.
 """
 import os
+import re
 import shutil
 import subprocess
 import sys
@@ -102,6 +103,15 @@ class Picture(unittest.TestCase):
 class Reached(unittest.TestCase):
     def test_the_page_is_what_the_sources_say(self):
         self.assertEqual(ran("reached.py", "--check"), (0, ""))
+
+
+class Version(unittest.TestCase):
+    def test_the_first_page_the_manual_and_the_changes_name_one_version(self):
+        top = SCRIPTS.parent
+        named = [re.search(r"^# tdm (\S+)", (top / "README.md").read_text(encoding="utf-8"))]
+        named.append(re.search(r'^\.TH TDM 1 "\S+" "tdm (\S+)"', (top / "tdm.1").read_text(), re.M))
+        named.append(re.search(r"^## (\S+)", (top / "CHANGELOG.md").read_text(), re.M))
+        self.assertEqual(len({it[1] for it in named}), 1)
 
 
 if __name__ == "__main__":
