@@ -14,4 +14,3 @@ pub mod GrowthSizes
 pub mod WeightedSums
 pub mod Bounded
 pub mod SpreadLists
-pub mod RisingLaws

@@ -10,7 +10,6 @@ mod growth;
 #[cfg(test)]
 mod growth_tests;
 mod marked_list;
-mod net_growth;
 mod net_growths;
 mod net_weights;
 mod spread;

@@ -1,11 +1,10 @@
 //! How far the nets of a board grow.
 ghost use Rattle.std.specs.Prelude.{◌≡◌, ◌≢◌, ℕ, ◌<◌, ◌≤◌, length, slice_index, All, AllPairs, IsPermutation, IfOk, OnOk};
-ghost use Rattle.std.specs.List.Sorted.{IsStrictlyIncreasing};
 ghost use Rattle.tdm_problem.specs.Board.{IsBoard};
 ghost use Rattle.board_graph.specs.Graph.{board_of};
-ghost use Rattle.bound_cert.specs.Growth.{IsGrowth};
+ghost use Rattle.bound_cert.specs.Growth.{AreRising, IsGrowth};
 ghost use Rattle.bound_cert.specs.Limits.{most_length};
-ghost use Rattle.cert_checker.specs.NetGrowths.{AreGrowths, HasNet};
+ghost use Rattle.cert_checker.specs.NetGrowths.{AreGrowths, AreWeighed, HasNet};
 
 use crate::growth::Grower;
 use board_graph::BoardGraph;
@@ -13,9 +12,9 @@ use std::alloc::{AllocError, Global};
 use std::mem;
 use tdm_problem::Problem;
 
-/// How far each net of a board grows over wires of these lengths, at most 2^48 each: its FPGAs grow in rising order. Of a
-/// net of weight 0 the number is 0, and says nothing. The FPGAs of such nets are not searched, and those of nets with the
-/// same FPGAs once. The only error is want of memory.
+/// How far each net of a board grows over wires of these lengths, at most 2^48 each: its FPGAs grow in rising order. A net
+/// of weight 0 has the number 0, and is not searched. Nets with the same FPGAs are searched once. The only error is want of
+/// memory.
 pub fn growths(
     alloc: Global,
     problem: &Problem,
@@ -58,7 +57,7 @@ fn marked_nets(
     weights: &[u64],
 ) -> Result<Vec<SetMark>, AllocError>
     requires { length weights.now ≡ length problem.now.nets }
-    ensures there { IfOk result (λ marks. All (λ m. m.net < length problem.now.nets) marks.items) }
+    ensures weighed { IfOk result (λ marks. AreWeighed weights.now marks.items) }
     ensures whole { IfOk result (λ marks. (n : ℕ) → n < length problem.now.nets → 0 < slice_index weights.now n → HasNet marks.items n) }
 {
     let mut marks = Vec::new(alloc);
@@ -100,7 +99,7 @@ struct GrownSet {
 /// Puts different FPGAs into a list, in rising order.
 fn put_rising(rising: &mut Vec<u32>, fpgas: &[u32]) -> Result<(), AllocError>
     requires distinct { AllPairs (λ x y. x ≢ y) fpgas.now }
-    ensures rises { OnOk result (IsStrictlyIncreasing rising.new.items) }
+    ensures rising { OnOk result (AreRising fpgas.now rising.new.items) }
     ensures same { OnOk result (IsPermutation fpgas.now rising.new.items) }
 {
     rising.clear();
@@ -124,8 +123,7 @@ fn grow_set(
     requires last { IsGrowth (board_of graph.now) (slice_index grower.old.lengths) last.old.fpgas.items last.old.growth }
     ensures grower { grower.new ≡ grower.old }
     ensures grows { OnOk result (IsGrowth (board_of graph.now) (slice_index grower.old.lengths) last.new.fpgas.items last.new.growth) }
-    ensures rises { OnOk result (IsStrictlyIncreasing last.new.fpgas.items) }
-    ensures same { OnOk result (IsPermutation fpgas.now last.new.fpgas.items) }
+    ensures rising { OnOk result (AreRising fpgas.now last.new.fpgas.items) }
 {
     put_rising(rising, fpgas)?;
     if rising.as_slice() == last.fpgas.as_slice() {

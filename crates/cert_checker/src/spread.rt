@@ -1,12 +1,13 @@
 //! How far nets are spread: by the potentials that they choose, or by their growth.
 ghost use Rattle.std.specs.Prelude.{◌≡◌, ◌+◌, ◌*◌, ◌<◌, ◌≤◌, ◌^◌, true, false, length, slice_index, sum, All, IfOk};
+ghost use Rattle.tdm_problem.specs.Board.{IsBoard};
 ghost use Rattle.bound_cert.specs.Certificate.{IsCertFor, IsPotential};
 ghost use Rattle.bound_cert.specs.Bound.{spread, net_spread};
 ghost use Rattle.bound_cert.specs.Limits.{most_potential_value};
 ghost use Rattle.cert_checker.specs.NetWeights.{AreNetWeights};
 ghost use Rattle.cert_checker.specs.Spreads.{AreSpreads};
 
-use crate::net_growth::net_growths;
+use crate::net_growths::growths;
 use bound_cert::Certificate;
 use std::alloc::{AllocError, Global};
 use tdm_problem::Problem;
@@ -19,12 +20,13 @@ pub(crate) fn spreads(
     cert: &Certificate,
     weights: &[u64],
 ) -> Result<Vec<u128>, AllocError>
+    requires board { IsBoard problem.now }
     requires is_for { IsCertFor problem.now cert.now }
     requires weights { AreNetWeights problem.now cert.now weights.now }
     ensures { IfOk result (λ spreads. AreSpreads problem.now cert.now spreads.items) }
 {
     if cert.grows() {
-        return net_growths(alloc, problem, cert, weights);
+        return growths(alloc, problem, cert.lengths(), weights);
     }
     chosen_spreads(alloc, problem, cert)
 }

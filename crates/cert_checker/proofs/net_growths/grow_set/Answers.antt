@@ -14,6 +14,6 @@ growth-requires-clause-there c =
 pub growth-requires-clause-distinct : goal.growth-requires-clause-distinct
 growth-requires-clause-distinct c =
     let rising = c.put_rising.new.rising.items in
-    let rises = AllPairs-from_increasing rising c.in_ok-put_rising.ensures.rises in
+    let rises = AllPairs-from_increasing rising c.in_ok-put_rising.ensures.rising.rises in
     subst (λ (xs : List ℕ). AllPairs (λ x y. x ≢ y) xs) (sym c.as_slice-3.ensures.value)
     (λ i j d before inside same. omega (arith, rises i j d before inside, same))
