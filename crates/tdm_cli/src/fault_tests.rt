@@ -1,5 +1,5 @@
-//! Runs in which each call of the desk fails in turn, texts that are cut, and texts that promise much.
-ghost use Rattle.std.specs.Prelude.{◌<◌, ◌≤◌};
+//! Runs in which each call of the desk fails in turn.
+ghost use Rattle.std.specs.Prelude.{◌<◌};
 
 use crate::status::Status;
 use crate::tests::run;
@@ -35,7 +35,7 @@ fn reports_failed_read(alloc: Global, calls: u64) -> Result<Option<bool>, AllocE
 {
     let mut desk = board_desk(alloc)?;
     desk.fail_read(calls)?;
-    match run(alloc, &mut desk, &["route", "b", "s", "c"])? {
+    match run(alloc, &mut desk, "route b s c")? {
         Status::Ok => Ok(None),
         Status::ReadFault => {
             let said = desk.report() == b"read fault input 1\n".as_slice();
@@ -48,9 +48,9 @@ fn reports_failed_read(alloc: Global, calls: u64) -> Result<Option<bool>, AllocE
 #[test]
 fn each_failing_read_is_reported_in_turn(rt: HostRuntime) -> Result<(), Fail> {
     let alloc = rt.alloc();
-    assert!(rt; reports_failed_read(alloc, 1)? == Some(true));
-    assert!(rt; reports_failed_read(alloc, 2)? == Some(true));
-    assert!(rt; reports_failed_read(alloc, 3)? == Some(true));
+    for calls in 1..4 {
+        assert!(rt; reports_failed_read(alloc, calls)? == Some(true));
+    }
     assert!(rt; reports_failed_read(alloc, 4)?.is_none());
     Ok(())
 }
@@ -72,7 +72,7 @@ fn stops_at_failed_write(alloc: Global, calls: u64) -> Result<Option<bool>, Allo
     let mut desk = board_desk(alloc)?;
     desk.set_piece(1);
     desk.fail_write(calls)?;
-    let answer = run(alloc, &mut desk, &["route", "b", "s", "c"])?;
+    let answer = run(alloc, &mut desk, "route b s c")?;
     if answer == Status::Ok {
         return Ok(None);
     }
@@ -107,123 +107,14 @@ fn a_fault_is_told_where_it_comes(rt: HostRuntime) -> Result<(), Fail> {
     let mut desk = board_desk(alloc)?;
     desk.set_piece(1);
     desk.fail_write(4)?;
-    assert!(rt; run(alloc, &mut desk, &["route", "b", "s", "c"])? == Status::WriteFault);
+    assert!(rt; run(alloc, &mut desk, "route b s c")? == Status::WriteFault);
     assert!(rt; desk.file("s") == Some(b"1\n".as_slice()));
     assert!(rt; desk.file("c").is_none() && desk.report().is_empty());
 
     let mut desk = board_desk(alloc)?;
     desk.put_file("s", SOLUTION)?;
     desk.fail_read(4)?;
-    assert!(rt; run(alloc, &mut desk, &["eval", "b", "s"])? == Status::ReadFault);
+    assert!(rt; run(alloc, &mut desk, "eval b s")? == Status::ReadFault);
     assert!(rt; desk.report() == b"read fault input 2\n".as_slice());
-    Ok(())
-}
-
-/// Whether the board with only so many of its bytes is refused with this report, and nothing is created.
-fn refuses_cut(alloc: Global, bytes: usize, said: &str) -> Result<bool, AllocError>
-    requires { bytes ≤ 18 }
-{
-    let mut desk = MemoryDesk::new(alloc);
-    desk.put_file("b", &BOARD.as_bytes()[..bytes])?;
-    let answer = run(alloc, &mut desk, &["route", "b", "s", "c"])?;
-    let told = answer == Status::BoardRefused && desk.report() == said.as_bytes();
-    Ok(told && creates_nothing(&desk))
-}
-
-#[test]
-fn a_board_that_is_cut_is_refused_where_it_ends(rt: HostRuntime) -> Result<(), Fail> {
-    let alloc = rt.alloc();
-    assert!(rt; refuses_cut(alloc, 0, "board refused NoHeader line 1\n")?);
-    for bytes in 1..7 {
-        assert!(rt; refuses_cut(alloc, bytes, "board refused WrongCount line 1\n")?);
-    }
-    assert!(rt; refuses_cut(alloc, 7, "board refused MissingLine line 1\n")?);
-    assert!(rt; refuses_cut(alloc, 8, "board refused MissingLine line 2\n")?);
-    for bytes in 9..11 {
-        assert!(rt; refuses_cut(alloc, bytes, "board refused WrongCount line 2\n")?);
-    }
-    assert!(rt; refuses_cut(alloc, 11, "board refused MissingLine line 2\n")?);
-    for bytes in 12..16 {
-        assert!(rt; refuses_cut(alloc, bytes, "board refused MissingLine line 3\n")?);
-    }
-    assert!(rt; refuses_cut(alloc, 16, "board refused MissingLine line 4\n")?);
-    assert!(rt; !refuses_cut(alloc, 17, "")?);
-    Ok(())
-}
-
-/// Whether these words over the board `b` and a text `t` end so and say this.
-fn ends(
-    alloc: Global,
-    words: &[&str],
-    text: &str,
-    status: Status,
-    said: &str,
-) -> Result<bool, AllocError> {
-    let mut desk = board_desk(alloc)?;
-    desk.put_file("t", text.as_bytes())?;
-    let answer = run(alloc, &mut desk, words)?;
-    Ok(answer == status && desk.report() == said.as_bytes())
-}
-
-#[test]
-fn counts_that_promise_much_are_refused(rt: HostRuntime) -> Result<(), Fail> {
-    let alloc = rt.alloc();
-    let solution = "solution refused MissingLine line 2\n";
-    assert!(rt;
-        ends(
-            alloc,
-            &["eval", "b", "t"],
-            "4294967295\n",
-            Status::SolutionRefused,
-            solution
-        )?
-    );
-    let cert = "certificate refused MissingLine line 2\n";
-    assert!(rt;
-        ends(
-            alloc,
-            &["check", "b", "t"],
-            "1 1 0 4096\n",
-            Status::CertRefused,
-            cert
-        )?
-    );
-    let board = "board refused MissingLine line 2\n";
-    let words = &["route", "t", "s", "c"];
-    assert!(rt;
-        ends(
-            alloc,
-            words,
-            "4096 65536 1048576 1048576\n",
-            Status::BoardRefused,
-            board
-        )?
-    );
-    Ok(())
-}
-
-/// Whether this certificate for the board is checked with this status and report.
-fn checks(alloc: Global, cert: &str, status: Status, said: &str) -> Result<bool, AllocError> {
-    ends(alloc, &["check", "b", "t"], cert, status, said)
-}
-
-#[test]
-fn certificates_at_the_ends_of_their_ranges_are_checked(rt: HostRuntime) -> Result<(), Fail> {
-    let alloc = rt.alloc();
-    let heavy = "1 1 0 1\n1099511627776\n1048576\n0 1048576\n1\n";
-    assert!(rt; checks(alloc, heavy, Status::Ok, "bound 2\n")?);
-    let long = "1 1 0 1\n1099511627776\n281474976710656\n0 281474976710656\n1\n";
-    assert!(rt; checks(alloc, long, Status::Ok, "bound 0\n")?);
-    let steep = "1 1 0 1\n1\n281474976710656\n1152921504606846975 0\n1\n";
-    assert!(rt;
-        checks(
-            alloc,
-            steep,
-            Status::CertRejected,
-            "steep potential 0 wire 0\n"
-        )?
-    );
-    let flat = "1 1 0 1\n1\n0\n1152921504606846975 1152921504606846975\n1\n";
-    assert!(rt; checks(alloc, flat, Status::Ok, "bound 0\n")?);
     Ok(())
 }

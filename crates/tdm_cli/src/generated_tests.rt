@@ -25,7 +25,7 @@ fn value_said(report: &[u8]) -> u64 {
 fn a_board_of_three_numbers_is_written(rt: HostRuntime) -> Result<(), Fail> {
     let alloc = rt.alloc();
     let mut desk = MemoryDesk::new(alloc);
-    let answer = run(alloc, &mut desk, &["gen", "4", "3", "2", "b"])?;
+    let answer = run(alloc, &mut desk, "gen 4 3 2 b")?;
     assert!(rt; answer == Status::Ok);
     assert!(rt; desk.report() == "fpgas 4 wires 8 nets 3 groups 2\n".as_bytes());
     let text = "4 8 3 2\n0 1\n1 2\n2 3\n3 0\n0 2\n1 3\n2 0\n3 1\n0 3 1\n3 2\n2 1 3\n0 1 2\n1\n";
@@ -39,11 +39,11 @@ fn demo_does_what_gen_and_route_do(rt: HostRuntime) -> Result<(), Fail> {
     let mut plain = MemoryDesk::new(alloc);
     let mut rounds = MemoryDesk::new(alloc);
     let mut shown = MemoryDesk::new(alloc);
-    let made = run(alloc, &mut plain, &["gen", "64", "2000", "500", "b"])?;
-    let without = run(alloc, &mut plain, &["route", "b", "s", "c", "0"])?;
-    let again = run(alloc, &mut rounds, &["gen", "64", "2000", "500", "b"])?;
-    let with = run(alloc, &mut rounds, &["route", "b", "s", "c"])?;
-    let demo = run(alloc, &mut shown, &["demo", "64", "2000", "500", "s", "c"])?;
+    let made = run(alloc, &mut plain, "gen 64 2000 500 b")?;
+    let without = run(alloc, &mut plain, "route b s c 0")?;
+    let again = run(alloc, &mut rounds, "gen 64 2000 500 b")?;
+    let with = run(alloc, &mut rounds, "route b s c")?;
+    let demo = run(alloc, &mut shown, "demo 64 2000 500 s c")?;
     assert!(rt; made == Status::Ok && without == Status::Ok);
     assert!(rt; again == Status::Ok && with == Status::Ok && demo == Status::Ok);
     assert!(rt; shown.report().starts_with(SIZE_AND_VALUE.as_bytes()));

@@ -66,7 +66,7 @@ fn a_baseline_may_have_too_many_uses(rt: HostRuntime) -> Result<(), Fail> {
     let board = path_board(alloc, 4096, 8195)?;
     let mut desk = MemoryDesk::new(alloc);
     desk.put_file("b", &board)?;
-    let answer = run(alloc, &mut desk, &["route", "b", "s", "c"])?;
+    let answer = run(alloc, &mut desk, "route b s c")?;
     assert!(rt; answer == Status::UseLimit);
     assert!(rt; desk.report() == "too many uses\n".as_bytes());
     assert!(rt; desk.file("s").is_none());
@@ -80,7 +80,7 @@ fn hundreds_of_nets_are_routed_and_judged(rt: HostRuntime) -> Result<(), Fail> {
     let board = ring_board(alloc)?;
     let mut desk = MemoryDesk::new(alloc);
     desk.put_file("b", &board)?;
-    let answer = run(alloc, &mut desk, &["route", "b", "s", "c", "2"])?;
+    let answer = run(alloc, &mut desk, "route b s c 2")?;
     assert!(rt; answer == Status::Ok);
     let (Some(solution), Some(cert)) = (desk.file("s"), desk.file("c")) else {
         return Err(Fail::new("no output"));
