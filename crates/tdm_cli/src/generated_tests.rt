@@ -1,6 +1,7 @@
 //! Boards from three numbers, written and routed.
 use crate::status::Status;
 use crate::tests::run;
+use std::alloc::Global;
 use std::test::Fail;
 use tdm_desk::MemoryDesk;
 
@@ -21,12 +22,21 @@ fn value_said(report: &[u8]) -> u64 {
     value
 }
 
+/// A desk on which these commands ran one after another; an error, where one does not end with Ok.
+fn after(alloc: Global, commands: &str) -> Result<MemoryDesk, Fail> {
+    let mut desk = MemoryDesk::new(alloc);
+    for words in commands.lines() {
+        if run(alloc, &mut desk, words)? != Status::Ok {
+            return Err(Fail::new("a command failed"));
+        }
+    }
+    Ok(desk)
+}
+
 #[test]
 fn a_board_of_three_numbers_is_written(rt: HostRuntime) -> Result<(), Fail> {
     let alloc = rt.alloc();
-    let mut desk = MemoryDesk::new(alloc);
-    let answer = run(alloc, &mut desk, "gen 4 3 2 b")?;
-    assert!(rt; answer == Status::Ok);
+    let desk = after(alloc, "gen 4 3 2 b")?;
     assert!(rt; desk.report() == "fpgas 4 wires 8 nets 3 groups 2\n".as_bytes());
     let text = "4 8 3 2\n0 1\n1 2\n2 3\n3 0\n0 2\n1 3\n2 0\n3 1\n0 3 1\n3 2\n2 1 3\n0 1 2\n1\n";
     assert!(rt; desk.file("b") == Some(text.as_bytes()));
@@ -36,16 +46,9 @@ fn a_board_of_three_numbers_is_written(rt: HostRuntime) -> Result<(), Fail> {
 #[test]
 fn demo_does_what_gen_and_route_do(rt: HostRuntime) -> Result<(), Fail> {
     let alloc = rt.alloc();
-    let mut plain = MemoryDesk::new(alloc);
-    let mut rounds = MemoryDesk::new(alloc);
-    let mut shown = MemoryDesk::new(alloc);
-    let made = run(alloc, &mut plain, "gen 64 2000 500 b")?;
-    let without = run(alloc, &mut plain, "route b s c 0")?;
-    let again = run(alloc, &mut rounds, "gen 64 2000 500 b")?;
-    let with = run(alloc, &mut rounds, "route b s c")?;
-    let demo = run(alloc, &mut shown, "demo 64 2000 500 s c")?;
-    assert!(rt; made == Status::Ok && without == Status::Ok);
-    assert!(rt; again == Status::Ok && with == Status::Ok && demo == Status::Ok);
+    let shown = after(alloc, "demo 64 2000 500 s c")?;
+    let rounds = after(alloc, "gen 64 2000 500 b\nroute b s c")?;
+    let plain = after(alloc, "gen 64 2000 500 b\nroute b s c 0")?;
     assert!(rt; shown.report().starts_with(SIZE_AND_VALUE.as_bytes()));
     assert!(rt; shown.report() == rounds.report());
     assert!(rt; shown.file("s") == rounds.file("s"));
