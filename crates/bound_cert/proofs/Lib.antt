@@ -4,6 +4,7 @@ pub mod LeastEven
 pub mod Nearer
 pub mod GrowthLaws
 pub mod OneGrowth
+pub mod GrowthByHand
 pub mod NetSpreads
 pub mod HopBound
 pub mod ShareBound

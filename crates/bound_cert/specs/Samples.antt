@@ -1,5 +1,7 @@
--- Certificates of small boards, on which the definitions are computed.
+-- Certificates of small boards, and a ring, on which the definitions are computed.
 use Rattle.std.specs.Prelude.{ℕ, false, List, [], ◌∷◌}
+use Rattle.tdm_problem.specs.Board.{Board}
+use Rattle.tdm_problem.specs.Samples.{wire}
 use Rattle.bound_cert.specs.declared.certificate.CertKind.TheVariants.{Share, Hop}
 use Rattle.bound_cert.specs.Certificate.{Cert}
 
@@ -23,4 +25,13 @@ star_cert = record {
   lengths = 1 ∷ 1 ∷ 1 ∷ [];
   potentials = (1 ∷ 0 ∷ 2 ∷ 2 ∷ []) ∷ [];
   choices = 1 ∷ [];
+}
+
+-- five FPGAs in a ring, each with a wire to the next
+abbrev pub ring_of_five : Board
+ring_of_five = record {
+  fpgas = 5;
+  wires = wire 0 1 ∷ wire 1 2 ∷ wire 2 3 ∷ wire 3 4 ∷ wire 4 0 ∷ [];
+  nets = (0 ∷ 2 ∷ 3 ∷ []) ∷ [];
+  groups = (0 ∷ []) ∷ [];
 }

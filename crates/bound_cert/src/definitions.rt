@@ -1,20 +1,29 @@
 //! Certificates, their texts and their bounds, computed on small boards.
 ghost use Rattle.std.specs.Prelude.{◌≡◌, false, ◌-◌, ◌^◌, [], ◌∷◌, codes, Ok, Err};
-ghost use Rattle.tdm_problem.specs.Samples.{pair, shared, star};
+ghost use Rattle.tdm_problem.specs.Samples.{pair, ring, shared, star};
 ghost use Rattle.bound_cert.specs.Bound.{bound_of, least_even, smallest, spread};
 ghost use Rattle.bound_cert.specs.CertReading.{cert_of, count_said};
 ghost use Rattle.bound_cert.specs.CertText.{cert_text};
 ghost use Rattle.bound_cert.specs.declared.certificate.CertKind.TheVariants.{Hop, Share};
 ghost use Rattle.bound_cert.specs.declared.limits.TheConstants.{MAX_LENGTH, MAX_POTENTIALS, MAX_POTENTIAL_VALUE, MAX_UNIT, MAX_WEIGHT, UNIFORM_WEIGHT};
 ghost use Rattle.bound_cert.specs.declared.refusal.CertTextKind.TheVariants.{BadKind, BadNumber, BadUnit, BadVersion, CountLimit, ExtraLine, LengthLimit, MissingLine, NoHeader, NumberTooLarge, UnknownPotential, WeightLimit, WrongCount};
+ghost use Rattle.bound_cert.specs.Growth.{IsGrowth};
 ghost use Rattle.bound_cert.specs.Floors.{hop_floor, part_of, share_floor, uniform_length};
 ghost use Rattle.bound_cert.specs.Makers.{growing_cert, group_growing_cert};
 ghost use Rattle.bound_cert.specs.Sources.{roots_of};
 ghost use Rattle.bound_cert.specs.Certificate.{IsCert, IsCertFor};
-ghost use Rattle.bound_cert.specs.Samples.{star_cert, wire_cert};
+ghost use Rattle.bound_cert.specs.Samples.{ring_of_five, star_cert, wire_cert};
 ghost use Rattle.bound_cert.specs.Valid.{IsSteep, IsValid};
 
 use tdm_problem::root_is_exact;
+
+/// FPGAs of a triangle, of a ring of five and of the star, all of whose wires are 1 long. On the star the heights fall
+/// along one wire in one direction and then in the other.
+fn fpgas_grow()
+    ensures triangle { IsGrowth ring (λ e. 1) (0 ∷ 1 ∷ 2 ∷ []) 2 }
+    ensures ring_of_five { IsGrowth ring_of_five (λ e. 1) (0 ∷ 2 ∷ 3 ∷ []) 3 }
+    ensures both_ways { IsGrowth star (λ e. 1) (1 ∷ 2 ∷ 3 ∷ []) 3 }
+{}
 
 /// Bounds of certificates for three nets on one wire, and for the star.
 fn bounds_are_raised_to_even_numbers()

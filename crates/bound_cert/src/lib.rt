@@ -34,7 +34,7 @@ mod write;
 pub use certificate::{CertKind, Certificate};
 pub use growth_maker::{growing_hop_cert, growing_share_cert};
 pub use hop_maker::hop_group_cert;
-pub use laws::{bound_is_least, bound_is_one, dual_bound, spread};
+pub use laws::{bound_is_least, bound_is_one, dual_bound, growth_is_short, spread};
 pub use laws_text::{a_text_says_a_certificate, cut_text_says_the_same, reads_back, text_is_short};
 pub use limits::{
     MAX_LENGTH, MAX_POTENTIAL_VALUE, MAX_POTENTIALS, MAX_UNIT, MAX_WEIGHT, UNIFORM_WEIGHT,

@@ -1,6 +1,7 @@
 //! Certificates of small boards, read and written.
 use crate::{
-    CertFault, CertKind, CertReader, CertRefusal, CertTextKind, Certificate, read_cert, write_cert,
+    CertFault, CertKind, CertReader, CertRefusal, CertTextKind as Kind, Certificate, read_cert,
+    write_cert,
 };
 use std::alloc::Global;
 use std::process::Abort;
@@ -53,7 +54,7 @@ fn assert_refused(
     alloc: Global,
     problem: &Problem,
     text: &[u8],
-    kind: CertTextKind,
+    kind: Kind,
     line: u32,
 ) {
     let refusal = CertFault::Refused(CertRefusal { kind, line });
@@ -73,66 +74,30 @@ fn assert_refused(
 fn refuses_the_first_line_at_fault(rt: HostRuntime) -> Result<(), Fail> {
     let alloc = rt.alloc();
     let problem = board(alloc)?;
-    assert_refused(&rt, alloc, &problem, b"1 3 0 0\n", CertTextKind::BadKind, 1);
-    assert_refused(&rt, alloc, &problem, b"1 1 1 0\n", CertTextKind::BadUnit, 1);
-    assert_refused(
-        &rt,
-        alloc,
-        &problem,
-        b"1 1 0 5000\n",
-        CertTextKind::CountLimit,
-        1,
-    );
-    assert_refused(
-        &rt,
-        alloc,
-        &problem,
-        b"2 1 0 0\n",
-        CertTextKind::BadVersion,
-        1,
-    );
-    let version = CertTextKind::BadVersion;
-    assert_refused(&rt, alloc, &problem, b"3 1 0 0\n", version, 1);
-    let count = CertTextKind::CountLimit;
-    assert_refused(&rt, alloc, &problem, b"4 1 0 1\n", count, 1);
+    assert_refused(&rt, alloc, &problem, b"\n \n", Kind::NoHeader, 3);
+    assert_refused(&rt, alloc, &problem, b"2 1 0 0\n", Kind::BadVersion, 1);
+    assert_refused(&rt, alloc, &problem, b"3 1 0 0\n", Kind::BadVersion, 1);
+    assert_refused(&rt, alloc, &problem, b"1 3 0 0\n", Kind::BadKind, 1);
+    assert_refused(&rt, alloc, &problem, b"1 1 1 0\n", Kind::BadUnit, 1);
+    assert_refused(&rt, alloc, &problem, b"1 1 0 5000\n", Kind::CountLimit, 1);
+    assert_refused(&rt, alloc, &problem, b"4 1 0 1\n", Kind::CountLimit, 1);
+    assert_refused(&rt, alloc, &problem, b"1 2 1 0\n", Kind::MissingLine, 2);
+    let more = b"1 2 1 0\n1\n0\n7\n";
+    assert_refused(&rt, alloc, &problem, more, Kind::ExtraLine, 4);
     let choice = b"4 2 1 0\n1\n0\n";
-    assert_refused(&rt, alloc, &problem, choice, CertTextKind::ExtraLine, 3);
-    assert_refused(&rt, alloc, &problem, b"\n \n", CertTextKind::NoHeader, 3);
-    assert_refused(
-        &rt,
-        alloc,
-        &problem,
-        b"1 2 1 0\n",
-        CertTextKind::MissingLine,
-        2,
-    );
-    assert_refused(
-        &rt,
-        alloc,
-        &problem,
-        b"1 2 1 0\n1\n0\n7\n",
-        CertTextKind::ExtraLine,
-        4,
-    );
+    assert_refused(&rt, alloc, &problem, choice, Kind::ExtraLine, 3);
     let weight = b"1 1 0 0\n1099511627777\n";
-    assert_refused(&rt, alloc, &problem, weight, CertTextKind::WeightLimit, 2);
+    assert_refused(&rt, alloc, &problem, weight, Kind::WeightLimit, 2);
     let length = b"1 1 0 0\n1\n281474976710657\n";
-    assert_refused(&rt, alloc, &problem, length, CertTextKind::LengthLimit, 3);
+    assert_refused(&rt, alloc, &problem, length, Kind::LengthLimit, 3);
     let choice = b"1 1 0 1\n1\n1\n0 1\n2\n";
-    assert_refused(
-        &rt,
-        alloc,
-        &problem,
-        choice,
-        CertTextKind::UnknownPotential,
-        5,
-    );
+    assert_refused(&rt, alloc, &problem, choice, Kind::UnknownPotential, 5);
     let value = b"1 1 0 1\n1\n1\n0 1152921504606846976\n1\n";
-    assert_refused(&rt, alloc, &problem, value, CertTextKind::NumberTooLarge, 4);
+    assert_refused(&rt, alloc, &problem, value, Kind::NumberTooLarge, 4);
     let long = b"0 0 0 0 0 0 0 0 0 0\n1";
-    assert_refused(&rt, alloc, &problem, long, CertTextKind::WrongCount, 1);
+    assert_refused(&rt, alloc, &problem, long, Kind::WrongCount, 1);
     let longer = b"1 1 0 0 0 0 0 0 0 0 x";
-    assert_refused(&rt, alloc, &problem, longer, CertTextKind::BadNumber, 1);
+    assert_refused(&rt, alloc, &problem, longer, Kind::BadNumber, 1);
     Ok(())
 }
 
