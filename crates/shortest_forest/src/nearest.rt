@@ -1,5 +1,5 @@
 //! The search for the nearest goal over lengths of arcs.
-ghost use Rattle.std.specs.Prelude.{◌≡◌, ◌+◌, ◌-◌, ◌^◌, ◌<◌, ◌≤◌, ℕ, length, IfOk, IfSome, IfNone, OnOk, ◌↔◌};
+ghost use Rattle.std.specs.Prelude.{◌≡◌, true, ◌+◌, ◌-◌, ◌^◌, ◌<◌, ◌≤◌, ℕ, length, IfOk, IfSome, IfNone, OnOk, ◌↔◌};
 ghost use Rattle.board_graph.specs.Graph.{board_of, IsGraph};
 ghost use Rattle.shortest_forest.specs.Labels.{IsSource, IsUnderWay, IsNearest, AreFar, IsPassing, IsReached, KeepsMarks, GoesOn};
 
@@ -13,11 +13,11 @@ use std::alloc::AllocError;
 pub const MOST_CAP: u64 = u64::MAX - (1 << 51) + 1;
 
 /// Goes on with the search until its nearest goal is settled, and answers it. None where nothing below
-/// `cap` is left: where the bounds are true, no goal is nearer than that. FPGAs are settled in the order of
-/// distance plus lower bound (Hart, Nilsson and Raphael, 1968), and those where this reaches the cap are left out. [`Search::begin`] comes before the first call of a search. Within one
-/// search, the lengths stay as they are, the cap may fall and bounds may rise. After want of memory the
-/// goals are as they were, but the labels are those of no search: [`Search::begin`] comes before anything
-/// else is asked of them.
+/// `cap` is left: where the bounds are true, no goal is nearer than that. Sources come first, the others in the order of
+/// distance plus lower bound (Hart, Nilsson and Raphael, 1968), and those where this reaches the cap are left out.
+/// [`Search::begin`] comes before the first call of a search. Within one search, the lengths stay as they are, the cap
+/// may fall and bounds may rise. After want of memory the goals are as they were, but the labels are those of no
+/// search: [`Search::begin`] comes before anything else is asked of them.
 pub fn nearest_goal<A: ArcLengths, B: LowerBounds>(
     search: &mut Search,
     graph: &BoardGraph,
@@ -51,7 +51,7 @@ pub fn nearest_goal<A: ArcLengths, B: LowerBounds>(
             search.take();
         } else if distance + bound < key {
             search.take();
-        } else if key < distance + bound {
+        } else if is_early(key, distance, bound) {
             search.take();
             search.queue_again(f, distance + bound)?;
         } else if search.is_goal(f) {
@@ -62,6 +62,15 @@ pub fn nearest_goal<A: ArcLengths, B: LowerBounds>(
         }
     }
     Ok(None)
+}
+
+/// Whether an FPGA at this distance is taken from the queue before its turn. A source is not, whatever its key: its
+/// distance cannot fall.
+fn is_early(key: u64, distance: u64, bound: u64) -> bool
+    requires { distance + bound < 2 ^ 64 }
+    ensures { result ≡ true → key < distance + bound }
+{
+    distance > 0 && key < distance + bound
 }
 
 /// Gives shorter labels along the arcs from FPGA `f`, which has this distance.

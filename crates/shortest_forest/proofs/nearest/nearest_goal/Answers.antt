@@ -93,7 +93,7 @@ loop-next-smaller-in-Continue-1 g c =
     let f = c.in-Some.next.1 in
     let was = c.loop-next.invariant.0 in
     let read = label-read board arcs s was.labelled f key (front_waits s key f c.in-Some.ensures.front) c.distance.result c.unwrap_or-distance.result c.distance.ensures c.unwrap_or-distance.ensures in
-    queued_work key f s c.take-then-key-distance.new.self (c.take-then-key-distance.ensures key f c.in-Some.ensures.front) (c.unwrap_or-distance.result + c.bound_of-bound.result) c.queue_again.new.self c.in_ok-queue_again.ensures.queued c.if-key-distance.true
+    queued_work key f s c.take-then-is_early.new.self (c.take-then-is_early.ensures key f c.in-Some.ensures.front) (c.unwrap_or-distance.result + c.bound_of-bound.result) c.queue_again.new.self c.in_ok-queue_again.ensures.queued (c.if-is_early.ensures refl)
     (omega (arith, c.if-bound-cap.false, read.1, c.if-key-cap.false, c.requires.cap))
 
 pub loop-next-preserved-in-Continue-1 : goal.loop-next-preserved-in-Continue-1
@@ -107,10 +107,10 @@ loop-next-preserved-in-Continue-1 g c =
     let was = c.loop-next.invariant.0 in
     let read = label-read board arcs s was.labelled f key (front_waits s key f c.in-Some.ensures.front) c.distance.result c.unwrap_or-distance.result c.distance.ensures c.unwrap_or-distance.ensures in
     let due = c.unwrap_or-distance.result + c.bound_of-bound.result in
-    let taken = c.take-then-key-distance.ensures key f c.in-Some.ensures.front in
+    let taken = c.take-then-is_early.ensures key f c.in-Some.ensures.front in
     let small : due < 2 ^ 65 = omega (arith, c.if-bound-cap.false, read.1, c.if-key-cap.false, c.requires.cap) in (
-      IsUnderWay-queued key f s c.take-then-key-distance.new.self taken due c.queue_again.new.self c.in_ok-queue_again.ensures.queued board arcs bound c.args.cap c.unwrap_or-distance.result was read.0 (omega (arith, c.bound_of-bound.ensures)),
-      GoesOn-trans c.args.search.now s c.queue_again.new.self c.loop-next.invariant.1 (GoesOn-queued key f s c.take-then-key-distance.new.self taken due c.queue_again.new.self c.in_ok-queue_again.ensures.queued c.if-key-distance.true small),
+      IsUnderWay-queued key f s c.take-then-is_early.new.self taken due c.queue_again.new.self c.in_ok-queue_again.ensures.queued board arcs bound c.args.cap c.unwrap_or-distance.result was read.0 (omega (arith, c.bound_of-bound.ensures)),
+      GoesOn-trans c.args.search.now s c.queue_again.new.self c.loop-next.invariant.1 (GoesOn-queued key f s c.take-then-is_early.new.self taken due c.queue_again.new.self c.in_ok-queue_again.ensures.queued (c.if-is_early.ensures refl) small),
     )
 
 pub returns-in_err-queue_again-clause-marks : goal.returns-in_err-queue_again-clause-marks
@@ -123,7 +123,7 @@ returns-in_err-queue_again-clause-marks g c =
     let f = c.in-Some.next.1 in
     let was = c.loop-next.invariant.0 in
     let read = label-read board arcs s was.labelled f key (front_waits s key f c.in-Some.ensures.front) c.distance.result c.unwrap_or-distance.result c.distance.ensures c.unwrap_or-distance.ensures in
-    let taken = c.take-then-key-distance.ensures key f c.in-Some.ensures.front in
+    let taken = c.take-then-is_early.ensures key f c.in-Some.ensures.front in
     record {
       goals = c.queue_again.ensures.marks.goals ∙ taken.goals ∙ c.loop-next.invariant.1.marks.goals;
       count = c.queue_again.ensures.marks.count ∙ ap length taken.labels ∙ c.loop-next.invariant.1.marks.count;
