@@ -1,5 +1,5 @@
 -- Lower bounds of walks from a table: why they are true.
-use Rattle.std.proofs.Common.{◌≡◌, ◌≢◌, ℕ, ◌+◌, ◌*◌, ◌<◌, ◌≤◌, Bool, cond, List, [], ◌∷◌, length, get_or, take, sym, ap, ◌∙◌, subst, ⊎_elim, arith}
+use Rattle.std.proofs.Common.{◌≡◌, ◌≢◌, ℕ, zero, suc, ◌+◌, ◌-◌, ◌*◌, ◌/◌, ◌^◌, ◌<◌, ◌≤◌, Bool, cond, List, [], ◌∷◌, length, get_or, set, get_or-set_same, get_or-set_other, take, sym, ap, ◌∙◌, subst, ⊎_elim, arith}
 use Rattle.std.specs.Prelude.{slice_index, min, reverse, replicate, All, Contains, Option, Some, None, MatchOption}
 use Rattle.std.proofs.Math.Nat.{div-le_of_le-mul, mul-le-mul_right, mul-le-mul_left}
 use Rattle.std.proofs.lemmas.Bool.{cases_eq, cases_lt, eq-eqb, ne_eqb}
@@ -14,10 +14,11 @@ use Rattle.tdm_problem.specs.Walk.{IsWalk, AnyWire}
 use Rattle.tdm_problem.proofs.LoadLaws.{sum_by-times}
 use Rattle.tdm_problem.proofs.Walks.{IsWalk-reverse}
 use Rattle.shortest_forest.specs.Reach.{HasNoWalk}
-use Rattle.steiner_build.specs.Building.{IsBelowWays}
+use Rattle.shortest_forest.specs.Arcs.{IsGoal}
 use Rattle.steiner_build.proofs.TakingLaws.{links-inside}
 use Rattle.ripup_reroute.specs.declared.table.Table.{Table}
-use Rattle.ripup_reroute.specs.Bounds.{IsTable, IsScaled, AreBelowWalks, entry_of, row_entry, bound_at, least_bound, tabled_length}
+use Rattle.ripup_reroute.specs.Bounds.{IsTable, IsScaled, AreBelowWalks, entry_of, row_entry, bound_at, tabled_length}
+use Rattle.ripup_reroute.specs.Ways.{AreWays, IsAmong, entry_at, least_entry, least-at}
 
 -- ---- the bounds of a table
 
@@ -48,31 +49,57 @@ module _ (board : Board) (table : Table) (scale : ℕ) (wire_length : ℕ → �
         scaled-walk (tabled_length table) wire_length scale es scaled,
       ))
 
-  least-below : (start f t : ℕ) (ts : List ℕ) → Contains ts t → t ≢ start → least_bound table scale start f ts ≤ bound_at table scale t f
-  least-below start f t [] there other = absurd (omega (arith, there.1))
-  least-below start f t (x ∷ ts) there other =
-      ⊎_elim
-      (λ (one : Contains (x ∷ []) t).
-      let first : x ≡ t = only x t one in
-      let apart : x ≢ start = λ same. other (sym first ∙ same) in
+-- ---- the least of some entries
+
+module _ (table : Table) (f : ℕ) where
+  least-small : (fpgas : List ℕ) (n : ℕ) → least_entry table fpgas f n ≤ 2 ^ 51
+  least-small fpgas zero = omega arith
+  least-small fpgas (suc n) = omega (arith, least-small fpgas n)
+
+  -- the least rises where fewer are listed
+  least-rises : (old : List ℕ) (n : ℕ) (new : List ℕ) (k : ℕ) → ((i : ℕ) → i < k → IsAmong old n (slice_index new i)) → least_entry table old f n ≤ least_entry table new f k
+  least-rises old n new zero within = least-small old n
+  least-rises old n new (suc k) within =
+      let last = within k (omega arith) in
       omega (
         arith,
-        ap (λ (b : Bool). cond b (least_bound table scale start f ts) (min (bound_at table scale x f) (least_bound table scale start f ts))) (ne_eqb x start apart),
-        ap (λ (y : ℕ). bound_at table scale y f) first,
-      ))
-      (λ (later : Contains ts t).
-      let rest : least_bound table scale start f ts ≤ bound_at table scale t f = least-below start f t ts later other in
-      ⊎_elim
-      (λ (same : x ≡ start). omega (arith, rest, ap (λ (b : Bool). cond b (least_bound table scale start f ts) (min (bound_at table scale x f) (least_bound table scale start f ts))) (eq-eqb x start same)))
-      (λ (apart : x ≢ start). omega (arith, rest, ap (λ (b : Bool). cond b (least_bound table scale start f ts) (min (bound_at table scale x f) (least_bound table scale start f ts))) (ne_eqb x start apart)))
-      (cases_eq x start))
-      (Contains-append_cases (x ∷ []) ts t there)
+        least-rises old n new k (λ i below. within i (omega (arith, below))),
+        least-at table old f n last.0 last.1,
+        ap (λ (t : ℕ). entry_at table t f) last.2,
+      )
 
-  -- the bounds of ways to terminals are true
-  pub ways-below : (start : ℕ) (terminals : List ℕ) → All (λ t. t < board.fpgas) terminals → IsBelowWays board wire_length start terminals (λ f. least_bound table scale start f terminals)
-  ways-below start terminals inside f t es there other walk =
-      let bound = bound-below t f es (omega (arith, inside there.0 0 there.1, there.2)) walk in
-      omega (arith, least-below start f t terminals there other, bound)
+-- ---- the terminals that are left
+
+-- one of those that are left gives its place to the last of them
+left-within : (fpgas : List ℕ) (left i : ℕ) → i < left → left ≤ length fpgas → (k : ℕ) → k < left - 1 → IsAmong fpgas left (slice_index (set fpgas i (slice_index fpgas (left - 1))) k)
+left-within fpgas left i below all k within =
+    ⊎_elim
+    (λ (same : k ≡ i). (left - 1, omega (arith, below), sym (ap (λ (x : ℕ). slice_index (set fpgas i (slice_index fpgas (left - 1))) x) same ∙ get_or-set_same fpgas i (slice_index fpgas (left - 1)) 0 (omega (arith, below, all)))))
+    (λ (other : k ≢ i). (k, omega (arith, within), sym (get_or-set_other fpgas i k (slice_index fpgas (left - 1)) 0 other)))
+    (cases_eq k i)
+
+-- what is left but that one is left then
+left-still : (fpgas : List ℕ) (left i : ℕ) → i < left → left ≤ length fpgas → (t : ℕ) → t ≢ slice_index fpgas i → IsAmong fpgas left t → IsAmong (set fpgas i (slice_index fpgas (left - 1))) (left - 1) t
+left-still fpgas left i below all t other among =
+    let apart : among.0 ≢ i = λ same. other (sym among.2 ∙ ap (slice_index fpgas) same) in
+    ⊎_elim
+    (λ (last : among.0 ≡ left - 1). (i, omega (arith, apart, last, below), get_or-set_same fpgas i (slice_index fpgas (left - 1)) 0 (omega (arith, below, all)) ∙ sym (ap (slice_index fpgas) last) ∙ among.2))
+    (λ (earlier : among.0 ≢ left - 1). (among.0, omega (arith, earlier, among.1), get_or-set_other fpgas i among.0 (slice_index fpgas (left - 1)) 0 apart ∙ among.2))
+    (cases_eq among.0 (left - 1))
+
+-- bounds rise where one that is joined is left no more
+pub ways-rise : (table : Table) (scale : ℕ) (fpgas : List ℕ) (left i : ℕ) → i < left → left ≤ length fpgas → (f : ℕ) → least_entry table fpgas f left * scale / 4096 ≤ least_entry table (set fpgas i (slice_index fpgas (left - 1))) f (left - 1) * scale / 4096
+ways-rise table scale fpgas left i below all f =
+    omega (arith, mul-le-mul_right scale (least-rises table f fpgas left (set fpgas i (slice_index fpgas (left - 1))) (left - 1) (left-within fpgas left i below all)))
+
+-- they are true then
+pub ways-left : (board : Board) (wire_length : ℕ → ℕ) (old new : List Bool) (table : Table) (scale : ℕ) (fpgas : List ℕ) (left i : ℕ) → i < left → left ≤ length fpgas → AreWays board wire_length old table scale fpgas left → ((g : ℕ) → IsGoal new g → IsGoal old g × (g ≢ slice_index fpgas i)) → AreWays board wire_length new table scale (set fpgas i (slice_index fpgas (left - 1))) (left - 1)
+ways-left board wire_length old new table scale fpgas left i below all ways fewer = record {
+  among = λ g marked. let was = fewer g marked in left-still fpgas left i below all g was.1 (ways.among g was.0);
+  long = λ t f es among walk.
+      let before = left-within fpgas left i below all among.0 among.1 in
+      ways.long t f es (before.0, before.1, before.2 ∙ among.2) walk;
+}
 
 -- ---- a table that is made
 

@@ -1,5 +1,5 @@
 -- Lower bounds of walks from a table of distances.
-use Rattle.std.specs.Prelude.{◌≡◌, ℕ, ◌+◌, ◌*◌, ◌/◌, ◌^◌, ◌<◌, ◌≤◌, ◌==◌, List, [], ◌∷◌, length, slice_index, false, replicate, min, Option, Some, None, All, if◌then◌else◌}
+use Rattle.std.specs.Prelude.{◌≡◌, ℕ, ◌+◌, ◌*◌, ◌/◌, ◌^◌, ◌<◌, ◌≤◌, List, length, slice_index, false, replicate, min, Option, Some, None, All}
 use Rattle.tdm_problem.specs.Board.{Board, IsWireOf}
 use Rattle.tdm_problem.specs.Limits.{most_fpgas}
 use Rattle.tdm_problem.specs.Distance.{length_of}
@@ -50,10 +50,3 @@ pub record IsTableAt (board : Board) (loads : List ℕ) (table : Table) : Type 0
 -- the bound of walks between FPGAs t and f at a scale
 abbrev pub bound_at : Table → (scale t f : ℕ) → ℕ
 bound_at table scale t f = entry_of table.distances.items table.fpgas t f * scale / 4096
-
--- the least bound of walks from FPGA f to one of these other than the start
-abbrev pub least_bound : Table → (scale start f : ℕ) → List ℕ → ℕ
-least_bound table scale start f [] = 2 ^ 63
-least_bound table scale start f (t ∷ ts) =
-    if t == start then least_bound table scale start f ts
-    else min (bound_at table scale t f) (least_bound table scale start f ts)

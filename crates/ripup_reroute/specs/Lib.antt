@@ -3,3 +3,4 @@ pub mod Rerouting
 pub mod Working
 pub mod Bounds
 pub mod Samples
+pub mod Ways

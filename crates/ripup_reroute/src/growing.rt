@@ -7,14 +7,11 @@ ghost use Rattle.ripup_reroute.specs.Working.{IsGrowth};
 use crate::marginals::Marginals;
 use crate::table::Table;
 use crate::tools::Tools;
-use crate::ways::WayBounds;
+use crate::ways::{MOST_BOUNDED, WayBounds};
 use board_graph::BoardGraph;
 use shortest_forest::NoBound;
 use std::alloc::AllocError;
 use steiner_build::TreeBuilder;
-
-/// Trees of more terminals are grown without lower bounds, which would cost more than they spare.
-const MOST_BOUNDED: usize = 6;
 
 /// Grows trees of the terminals from so many of them in turn, the first one first, each shorter than the best so far and
 /// than `cap`. Answers the length of the best, whose wires are `found` then. None where walks from the first terminal to
@@ -130,13 +127,8 @@ pub(crate) fn grow_from(
         (λ e. 2 * slice_index lengths.now.loads.now e + lengths.now.own) start terminals.now cap builder.new.wires) }
 {
     if terminals.len() > MOST_BOUNDED || !table.is_used() {
-        return builder.grow(graph, lengths, &NoBound, terminals, start, cap);
+        return builder.grow(graph, lengths, &mut NoBound, terminals, start, cap);
     }
-    let bounds = WayBounds {
-        table,
-        scale,
-        terminals,
-        start,
-    };
-    builder.grow(graph, lengths, &bounds, terminals, start, cap)
+    let mut bounds = WayBounds::new(table, scale, terminals, start);
+    builder.grow(graph, lengths, &mut bounds, terminals, start, cap)
 }

@@ -1,10 +1,10 @@
 //! A table of distances between FPGAs, and the lower bounds of walks that it gives while loads change.
-ghost use Rattle.std.specs.Prelude.{◌≡◌, ◌+◌, ◌*◌, ◌^◌, ◌<◌, ◌≤◌, ℕ, List, true, false, length, slice_index, replicate, All, Contains, IfOk, OnOk};
+ghost use Rattle.std.specs.Prelude.{◌≡◌, ◌+◌, ◌*◌, ◌/◌, ◌^◌, ◌<◌, ◌≤◌, ℕ, List, true, false, length, slice_index, replicate, All, Contains, IfOk, OnOk};
 ghost use Rattle.tdm_problem.specs.Board.{Board};
 ghost use Rattle.tdm_problem.specs.Distance.{length_of};
 ghost use Rattle.board_graph.specs.Graph.{board_of};
 ghost use Rattle.shortest_forest.specs.Labels.{Labels, label_at, distance_in};
-ghost use Rattle.ripup_reroute.specs.Bounds.{IsTable, IsTableAt, IsScaled, AreBelowWalks, bound_at, tabled_length, row_entry};
+ghost use Rattle.ripup_reroute.specs.Bounds.{IsTable, IsTableAt, IsScaled, AreBelowWalks, bound_at, entry_of, tabled_length, row_entry};
 
 use crate::marginals::Marginals;
 use board_graph::BoardGraph;
@@ -27,7 +27,7 @@ const TURNS_PER_FPGA: u32 = 16;
 const NETS_PER_FPGA: u32 = 20;
 
 /// No entry is greater.
-const MOST_ENTRY: u64 = 1 << 51;
+pub(crate) const MOST_ENTRY: u64 = 1 << 51;
 
 /// The distances between all FPGAs at the lengths of a moment, twice the loads, and a scale in 4096ths: each wire is at
 /// least so many 4096ths as long as it was then. So an entry times the scale, over 4096, is a lower bound of walks, however
@@ -174,8 +174,30 @@ impl Table {
         ensures value { result ≡ bound_at self.now scale a b }
         ensures small { result ≤ 2 ^ 51 }
     {
-        self.distances[a as usize * self.fpgas as usize + b as usize] * scale / WHOLE
+        at_scale(self.entry_of(a, b), scale)
     }
+
+    /// The entry of two FPGAs.
+    pub(crate) fn entry_of(&self, a: u32, b: u32) -> u64
+        requires full { length self.now.distances.items ≡ self.now.fpgas * self.now.fpgas }
+        requires small { All (λ d. d ≤ 2 ^ 51) self.now.distances.items }
+        requires a { a < self.now.fpgas }
+        requires b { b < self.now.fpgas }
+        ensures value { result ≡ entry_of self.now.distances.items self.now.fpgas a b }
+        ensures small { result ≤ 2 ^ 51 }
+    {
+        self.distances[a as usize * self.fpgas as usize + b as usize]
+    }
+}
+
+/// An entry times a scale, over 4096.
+pub(crate) fn at_scale(entry: u64, scale: u64) -> u64
+    requires entry { entry ≤ 2 ^ 51 }
+    requires scale { scale ≤ 4096 }
+    ensures value { result ≡ entry * scale / 4096 }
+    ensures small { result ≤ 2 ^ 51 }
+{
+    entry * scale / WHOLE
 }
 
 /// The scale, or less if a wire of this length asks it that was `tabled` long when the table was made.

@@ -54,7 +54,7 @@ fn push_tree(
     match builder.grow(
         graph,
         &ByNumber,
-        &NoBound,
+        &mut NoBound,
         terminals,
         terminals[0],
         MOST_CAP,

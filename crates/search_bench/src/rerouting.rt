@@ -53,7 +53,7 @@ fn push_tree(
     ensures minimal { OnOk result ((board : Board) → graph.now ≡ graph_of board
         → IsMinimalTree board builder.new.wires terminals.now) }
 {
-    match builder.grow(graph, &Hops, &NoBound, terminals, terminals[0], MOST_CAP)? {
+    match builder.grow(graph, &Hops, &mut NoBound, terminals, terminals[0], MOST_CAP)? {
         Some(_) => trees.push_net(builder.wires()),
         None => Err(AllocError),
     }
@@ -109,20 +109,6 @@ fn all_nets(alloc: Global, nets: u32) -> Result<Vec<u32>, AllocError>
     Ok(picks)
 }
 
-/// The effort of a round, as `tdm` spends it: much in the first five.
-fn effort_of(done: u32) -> Effort {
-    if done < 5 {
-        return Effort {
-            full_passes: 1,
-            several_starts: true,
-        };
-    }
-    Effort {
-        full_passes: 0,
-        several_starts: false,
-    }
-}
-
 /// A round of passes over all nets. Answers the cost afterwards in units of 2^20.
 fn round(
     alloc: Global,
@@ -138,7 +124,7 @@ fn round(
     ensures { OnOk result (AreMinimalTrees problem.now trees.new) }
 {
     let numbers = numbers_at(alloc, problem.nets(), done)?;
-    let effort = effort_of(done);
+    let effort = Effort::of_round(done);
     let rerouted = reroute_with(
         alloc, problem, graph, trees, &numbers, picks, PASSES, effort,
     )?;

@@ -24,7 +24,7 @@ pub(crate) fn grow_all<Q: Lengths>(
     for n in 0..problem.nets() {
         let terminals = problem.net(n);
         let start = terminals[0];
-        let grown = builder.grow(graph, lengths, &NoBound, terminals, start, MOST_CAP)?;
+        let grown = builder.grow(graph, lengths, &mut NoBound, terminals, start, MOST_CAP)?;
         sum = sum.wrapping_add(grown.unwrap_or(0));
     }
     Ok(sum)

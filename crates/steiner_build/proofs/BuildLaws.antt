@@ -9,22 +9,12 @@ use Rattle.tdm_problem.specs.Board.{Board}
 use Rattle.tdm_problem.specs.Walk.{Links, IsWalk, AnyWire, IsMinimalTree, IsConnectable}
 use Rattle.tdm_problem.specs.Distance.{length_of}
 use Rattle.board_graph.specs.Graph.{Graph, graph_of, board_of}
-use Rattle.shortest_forest.specs.Arcs.{both_ways, IsLowerBound}
 use Rattle.shortest_forest.specs.Labels.{Labels}
 use Rattle.shortest_forest.proofs.ClimbLaws.{sorted_rising}
 use Rattle.shortest_forest.proofs.SameBoard.{Links-same}
-use Rattle.shortest_forest.proofs.WayLaws.{arc_walk-to_walk}
-use Rattle.steiner_build.specs.Building.{IsBelowWays, IsWithinWalks}
+use Rattle.steiner_build.specs.Building.{IsWithinWalks}
 use Rattle.steiner_build.specs.Joining.{AreOthers, HasNoGoals, IsJoining, IsSomeBeyond}
 use Rattle.steiner_build.proofs.LengthLaws.{any-walk, walk-few, length-few}
-
--- bounds of ways are bounds of ways to the goals
-pub lower-bound : (board : Board) (l : ℕ → ℕ) (start : ℕ) (terminals : List ℕ) (bound : ℕ → ℕ) (goals : List Bool) → IsBelowWays board l start terminals bound → AreOthers terminals start goals → IsLowerBound board (both_ways l) goals bound
-lower-bound board l start terminals bound goals lawful others f es g total marked walk =
-    let other = (others g).0 marked in
-    let way = arc_walk-to_walk board l f es g total walk in
-    let least : bound f ≤ length_of l es = lawful f g es other.0 other.1 way.0 in
-    omega (arith, least, way.1)
 
 -- ---- on each board that has the graph
 

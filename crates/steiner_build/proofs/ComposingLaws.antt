@@ -4,7 +4,7 @@ use Rattle.std.specs.Prelude.{Contains, slice_set}
 use Rattle.tdm_problem.specs.Board.{Board}
 use Rattle.tdm_problem.specs.Walk.{Links, AnyWire}
 use Rattle.tdm_problem.specs.Distance.{length_of}
-use Rattle.shortest_forest.specs.Arcs.{both_ways, IsGoal, IsLowerBound}
+use Rattle.shortest_forest.specs.Arcs.{both_ways, IsGoal}
 use Rattle.shortest_forest.specs.Labels.{Labels, IsSource, IsUnderWay}
 use Rattle.shortest_forest.proofs.UnderWay.{IsUnderWay-falls, begun_unlabelled}
 use Rattle.steiner_build.specs.Building.{IsWithinWalks}
@@ -43,14 +43,11 @@ IsComposing-start board l bound cap start old now others n some there count begu
         none f was = let h : None ≡ Some (record { distance = 0; wire = None }) = sym (begun_unlabelled old n begun f) ∙ was in absurd (cc h)
 
 module _ (board : Board) (l bound : ℕ → ℕ) (cap start : ℕ) (old now : Labels) (wires : List ℕ) (total left : ℕ) (composing : IsComposing board l bound cap start old now wires total left) where
-  pub composing-lawful : IsLowerBound board (both_ways l) old.goals bound → IsLowerBound board (both_ways l) now.goals bound
-  composing-lawful lawful f es g number marked walk = lawful f es g number (composing.goals g marked) walk
-
-  pub IsComposing-more : ((e a b : ℕ) → Links board e a b → a < board.fpgas) → (new : Labels) (wires' : List ℕ) (distance : ℕ) → IsJoinedBy board l now new wires wires' distance → distance < cap - total
-      → IsUnderWay board (both_ways l) bound (cap - total) new → length new.goals ≡ length now.goals → length new.labels ≡ length now.labels → ((f : ℕ) → IsGoal new.goals f → IsGoal now.goals f)
-      → IsComposing board l bound cap start old new wires' (total + distance) (left - 1)
-  IsComposing-more inside new wires' distance step near under size labels goals = record {
-    under_way = IsUnderWay-falls board (both_ways l) bound bound (cap - total) (cap - (total + distance)) new (λ f. omega arith) (omega arith) under;
+  pub IsComposing-more : ((e a b : ℕ) → Links board e a b → a < board.fpgas) → (new : Labels) (bound' : ℕ → ℕ) (wires' : List ℕ) (distance : ℕ) → IsJoinedBy board l now new wires wires' distance → distance < cap - total
+      → IsUnderWay board (both_ways l) bound' (cap - total) new → length new.goals ≡ length now.goals → length new.labels ≡ length now.labels → ((f : ℕ) → IsGoal new.goals f → IsGoal now.goals f)
+      → IsComposing board l bound' cap start old new wires' (total + distance) (left - 1)
+  IsComposing-more inside new bound' wires' distance step near under size labels goals = record {
+    under_way = IsUnderWay-falls board (both_ways l) bound' bound' (cap - total) (cap - (total + distance)) new (λ f. omega arith) (omega arith) under;
     below = omega (arith, near, composing.below);
     count = omega (arith, composing.count, goal_count-less now.goals step.goal step.marked, ap goal_count step.goals);
     goals = λ f h. composing.goals f (goals f h);

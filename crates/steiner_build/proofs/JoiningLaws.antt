@@ -43,6 +43,14 @@ unmarked goals f = by (cases_lt f (length goals))
     by (inl below) = get_or-set_same goals f false false below
     by (inr past) = get_or_past (set goals f false) f false (omega (arith, past, length-set goals f false))
 
+-- a goal that is left was one, and is not the one that is none any more
+pub left-goal : (goals : List Bool) (f g : ℕ) → get_or (set goals f false) g false ≡ true → (get_or goals g false ≡ true) × (g ≢ f)
+left-goal goals f g is = by (same_or_other g f)
+  where
+    by : (g ≡ f) ⊎ (g ≢ f) → (get_or goals g false ≡ true) × (g ≢ f)
+    by (inl same) = goal-or-not (set goals f false) g is (ap (λ x. get_or (set goals f false) x false) same ∙ unmarked goals f)
+    by (inr other) = (sym (get_or-set_other goals f g false false other) ∙ is, other)
+
 -- what is a goal is an FPGA
 pub goal-below : (goals : List Bool) (f : ℕ) → get_or goals f false ≡ true → f < length goals
 goal-below goals f is = by (cases_lt f (length goals))
@@ -129,11 +137,7 @@ module _ (board : Board) (wire_length : ℕ → ℕ) (start : ℕ) (terminals : 
           by (inr other) = inr (h.0, sym (get_or-set_other s.goals step.goal t false false other) ∙ sym (ap (λ gs. get_or gs t false) step.goals) ∙ h.1)
 
       goal-before : (f : ℕ) → IsGoal s'.goals f → IsGoal s.goals f
-      goal-before f h = by (same_or_other f step.goal)
-        where
-          by : (f ≡ step.goal) ⊎ (f ≢ step.goal) → IsGoal s.goals f
-          by (inl same) = goal-or-not s'.goals f h (subst (IsJoined terminals s'.goals) (sym same) joined-goal).1
-          by (inr other) = sym (get_or-set_other s.goals step.goal f false false other) ∙ sym (ap (λ gs. get_or gs f false) step.goals) ∙ h
+      goal-before f h = (left-goal s.goals step.goal f (sym (ap (λ gs. get_or gs f false) step.goals) ∙ h)).0
 
       pub IsJoining-more : IsJoining board wire_length start terminals s' wires' (total + distance)
       IsJoining-more = record {

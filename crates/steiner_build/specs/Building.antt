@@ -1,5 +1,5 @@
 -- What builds trees, and how long a tree may be.
-use Rattle.std.specs.Prelude.{◌≢◌, ℕ, ◌≤◌, List, sum_by, Contains}
+use Rattle.std.specs.Prelude.{ℕ, ◌≤◌, List, sum_by, Contains}
 use Rattle.tdm_problem.specs.Board.{Board}
 use Rattle.tdm_problem.specs.Walk.{IsWalk, AnyWire, Joins}
 use Rattle.tdm_problem.specs.Distance.{IsDistance, length_of}
@@ -30,8 +30,3 @@ IsWithinDistances board wire_length start fpgas number = (distance : ℕ → ℕ
 abbrev pub IsWithinJoining : Board → (ℕ → ℕ) → List ℕ → ℕ → Type 0
 IsWithinJoining board wire_length fpgas number = (wires : List ℕ) → Joins board (Contains wires) fpgas
     → number ≤ length_of wire_length wires
-
--- from each FPGA every walk to one of the listed FPGAs other than the start is at least as long as the bound
-abbrev pub IsBelowWays : Board → (ℕ → ℕ) → ℕ → List ℕ → (ℕ → ℕ) → Type 0
-IsBelowWays board wire_length start fpgas bound = (f t : ℕ) (es : List ℕ) → Contains fpgas t → t ≢ start
-    → IsWalk board (AnyWire board) f es t → bound f ≤ length_of wire_length es

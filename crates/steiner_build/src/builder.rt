@@ -1,17 +1,19 @@
 //! What builds trees on one graph, again and again.
-ghost use Rattle.std.specs.Prelude.{◌≡◌, ◌+◌, ◌-◌, ◌^◌, ◌<◌, ◌≤◌, ℕ, [], ◌∷◌, List, length, slice_index, All, Contains, IfOk, IfSome, IfNone, IfErr, OnOk};
+ghost use Rattle.std.specs.Prelude.{◌≡◌, ◌+◌, ◌-◌, ◌^◌, ◌<◌, ◌≤◌, ℕ, Bool, [], ◌∷◌, List, length, slice_index, All, Contains, IfOk, IfSome, IfNone, IfErr, OnOk};
 ghost use Rattle.std.specs.List.Sorted.{IsStrictlyIncreasing};
 ghost use Rattle.tdm_problem.specs.Board.{Board};
 ghost use Rattle.tdm_problem.specs.Walk.{IsMinimalTree, IsConnectable};
 ghost use Rattle.tdm_problem.specs.Distance.{length_of};
 ghost use Rattle.board_graph.specs.Graph.{board_of, graph_of};
 ghost use Rattle.steiner_build.specs.declared.fault.BuildFault.TheVariants.{NotConnectable};
-ghost use Rattle.steiner_build.specs.Building.{IsBelowWays, IsWithinWalks, IsWithinDistances, IsWithinJoining};
+ghost use Rattle.steiner_build.specs.Building.{IsWithinWalks, IsWithinDistances, IsWithinJoining};
+ghost use Rattle.steiner_build.specs.Joining.{AreOthers};
 
+use crate::bounds::TreeBounds;
 use crate::fault::BuildFault;
 use crate::joining::{join_all, mark, unmark};
 use board_graph::BoardGraph;
-use shortest_forest::{Lengths, LowerBounds, MOST_CAP, NoBound, Search};
+use shortest_forest::{Lengths, MOST_CAP, NoBound, Search};
 use std::alloc::{AllocError, Global};
 use std::marker::Model;
 
@@ -67,22 +69,22 @@ impl TreeBuilder {
     /// [`TreeBuilder::wires`]. None where walks from `start` to the terminals are together at least as long
     /// as `cap`; with the greatest cap no wires connect the terminals. They are FPGAs of the graph that the
     /// builder was made for. The bound of an FPGA is at most the length of every walk from there to a
-    /// terminal other than `start`. After each answer, and after want of memory, the builder may be used
-    /// again; without a tree, its wires say nothing.
-    pub fn grow<Q: Lengths, B: LowerBounds>(
+    /// terminal other than `start`, and is told of each terminal that is joined. After each answer, and after want
+    /// of memory, the builder may be used again; without a tree, its wires say nothing, nor do the bounds.
+    pub fn grow<Q: Lengths, B: TreeBounds>(
         &mut self,
         graph: &BoardGraph,
         lengths: &Q,
-        bounds: &B,
+        bounds: &mut B,
         terminals: &[u32],
         start: u32,
         cap: u64,
     ) -> Result<Option<u64>, AllocError>
         requires graph { self.old.fpgas ≡ graph.now.fpgas }
         requires lengths { length graph.now.wires ≤ Q.covered lengths.now }
-        requires bounds { graph.now.fpgas ≤ B.bounds_covered bounds.now }
-        requires lawful { IsBelowWays
-            (board_of graph.now) (Q.length lengths.now) start terminals.now (B.lower_bound bounds.now) }
+        requires bounds { graph.now.fpgas ≤ B.bounds_covered bounds.old }
+        requires lawful { (goals : List Bool) → AreOthers terminals.now start goals
+            → B.are_true bounds.old (board_of graph.now) (Q.length lengths.now) goals }
         requires there { All (λ t. t < graph.now.fpgas) terminals.now }
         requires start { Contains terminals.now start }
         requires cap { cap ≤ 2 ^ 64 - 2 ^ 51 }
@@ -154,7 +156,7 @@ pub fn build<Q: Lengths>(
     let _fpgas = graph.fpgas();
     let mut builder = TreeBuilder::new(alloc, graph)?;
     let first = terminals[0];
-    match builder.grow(graph, lengths, &NoBound, terminals, first, MOST_CAP)? {
+    match builder.grow(graph, lengths, &mut NoBound, terminals, first, MOST_CAP)? {
         Some(_) => Ok(builder.into_wires()),
         None => Err(BuildFault::NotConnectable),
     }

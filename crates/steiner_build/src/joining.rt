@@ -2,13 +2,14 @@
 ghost use Rattle.std.specs.Prelude.{◌≡◌, ◌≢◌, ◌+◌, ◌-◌, ◌^◌, ◌<◌, ◌≤◌, ℕ, List, [], false, replicate, length, slice_index_or, slice_set, Contains, All, IfOk, OnOk, IfSome, IfNone, None};
 ghost use Rattle.tdm_problem.specs.Walk.{IsWalk, AnyWire};
 ghost use Rattle.board_graph.specs.Graph.{IsGraph, board_of};
-ghost use Rattle.shortest_forest.specs.Arcs.{IsGoal, IsLowerBound, both_ways};
+ghost use Rattle.shortest_forest.specs.Arcs.{IsGoal, both_ways};
 ghost use Rattle.shortest_forest.specs.Labels.{IsUnderWay, IsBegun, StaysUnderWay, IsSource};
 ghost use Rattle.steiner_build.specs.Building.{IsWithinWalks};
 ghost use Rattle.steiner_build.specs.Joining.{IsTakenIn, IsJoinedBy, IsJoining, IsWithinGoals, HasNoGoals, AreOthers, IsSomeBeyond, goal_count};
 
+use crate::bounds::TreeBounds;
 use board_graph::BoardGraph;
-use shortest_forest::{BothWays, Lengths, LowerBounds, Search, nearest_goal, other_end, way_back};
+use shortest_forest::{BothWays, Lengths, Search, nearest_goal, other_end, way_back};
 use std::alloc::AllocError;
 
 /// Makes the terminals but `start` goals, and answers how many they are.
@@ -51,28 +52,27 @@ pub(crate) fn unmark(search: &mut Search, terminals: &[u32])
 }
 
 /// Joins the goals, which are so many, with `start` and with one another, if that takes less than `cap`.
-pub(crate) fn join_all<Q: Lengths, B: LowerBounds>(
+pub(crate) fn join_all<Q: Lengths, B: TreeBounds>(
     search: &mut Search,
     wires: &mut Vec<u32>,
     graph: &BoardGraph,
     lengths: &Q,
-    bounds: &B,
+    bounds: &mut B,
     start: u32,
     others: usize,
     cap: u64,
 ) -> Result<Option<u64>, AllocError>
     requires graph { IsGraph graph.now }
     requires lengths { length graph.now.wires ≤ Q.covered lengths.now }
-    requires bounds { graph.now.fpgas ≤ B.bounds_covered bounds.now }
+    requires bounds { graph.now.fpgas ≤ B.bounds_covered bounds.old }
     requires cap { cap ≤ 2 ^ 64 - 2 ^ 51 }
     requires some { 0 < cap }
     requires start { start < graph.now.fpgas }
     requires none { wires.old.items ≡ [] }
     requires begun { search.old.labels ≡ replicate graph.now.fpgas None }
     requires under_way { IsUnderWay
-        (board_of graph.now) (both_ways (Q.length lengths.now)) (B.lower_bound bounds.now) cap search.old }
-    requires lawful { IsLowerBound
-        (board_of graph.now) (both_ways (Q.length lengths.now)) search.old.goals (B.lower_bound bounds.now) }
+        (board_of graph.now) (both_ways (Q.length lengths.now)) (B.lower_bound bounds.old) cap search.old }
+    requires lawful { B.are_true bounds.old (board_of graph.now) (Q.length lengths.now) search.old.goals }
     requires count { others ≡ goal_count search.old.goals }
     ensures size { length search.new.goals ≡ length search.old.goals }
     ensures labels { length search.new.labels ≡ length search.old.labels }
@@ -101,24 +101,26 @@ pub(crate) fn join_all<Q: Lengths, B: LowerBounds>(
 
 /// Joins the nearest goal with the tree and answers the length of the path to it. None where no goal is
 /// nearer than `cap`.
-fn join_nearest<Q: Lengths, B: LowerBounds>(
+fn join_nearest<Q: Lengths, B: TreeBounds>(
     search: &mut Search,
     wires: &mut Vec<u32>,
     graph: &BoardGraph,
     lengths: &Q,
-    bounds: &B,
+    bounds: &mut B,
     cap: u64,
 ) -> Result<Option<u64>, AllocError>
     requires graph { IsGraph graph.now }
     requires lengths { length graph.now.wires ≤ Q.covered lengths.now }
-    requires bounds { graph.now.fpgas ≤ B.bounds_covered bounds.now }
+    requires bounds { graph.now.fpgas ≤ B.bounds_covered bounds.old }
     requires cap { cap ≤ 2 ^ 64 - 2 ^ 51 }
     requires under_way { IsUnderWay
-        (board_of graph.now) (both_ways (Q.length lengths.now)) (B.lower_bound bounds.now) cap search.old }
-    requires lawful { IsLowerBound
-        (board_of graph.now) (both_ways (Q.length lengths.now)) search.old.goals (B.lower_bound bounds.now) }
+        (board_of graph.now) (both_ways (Q.length lengths.now)) (B.lower_bound bounds.old) cap search.old }
+    requires lawful { B.are_true bounds.old (board_of graph.now) (Q.length lengths.now) search.old.goals }
+    ensures covered { B.bounds_covered bounds.new ≡ B.bounds_covered bounds.old }
     ensures under_way { OnOk result (IsUnderWay
-        (board_of graph.now) (both_ways (Q.length lengths.now)) (B.lower_bound bounds.now) cap search.new) }
+        (board_of graph.now) (both_ways (Q.length lengths.now)) (B.lower_bound bounds.new) cap search.new) }
+    ensures lawful { IfOk result (λ found. IfSome found (λ _.
+        B.are_true bounds.new (board_of graph.now) (Q.length lengths.now) search.new.goals)) }
     ensures joined { IfOk result (λ found. IfSome found (IsJoinedBy
         (board_of graph.now) (Q.length lengths.now) search.old search.new wires.old.items wires.new.items)) }
     ensures below { IfOk result (λ found. IfSome found (λ distance. distance < cap)) }
@@ -135,6 +137,7 @@ fn join_nearest<Q: Lengths, B: LowerBounds>(
     let joined = wires.len();
     way_back(search, graph, goal, wires)?;
     search.remove_goal(goal);
+    bounds.join(goal);
     take_in(search, graph, goal, &wires[joined..])?;
     Ok(Some(distance))
 }

@@ -1,6 +1,6 @@
 ghost use Rattle.std.specs.Prelude.{◌≡◌, ◌-◌, ◌^◌, ◌<◌, ◌≤◌, length, IfOk};
 
-use crate::{BuildFault, TreeBuilder, build};
+use crate::{BuildFault, TreeBounds, TreeBuilder, build};
 use board_graph::BoardGraph;
 use shortest_forest::{Lengths, LowerBounds, MOST_CAP, NoBound};
 use std::alloc::{AllocError, Global};
@@ -44,6 +44,7 @@ impl Lengths for Alike {
 }
 
 /// FPGA 2 is a terminal, and at least one wire leads to it from every other.
+#[derive(Drop)]
 struct OneFromElsewhere;
 
 impl LowerBounds for OneFromElsewhere {
@@ -56,6 +57,18 @@ impl LowerBounds for OneFromElsewhere {
     fn bound_of(&self, fpga: u32) -> u64 {
         if fpga == 2 { 0 } else { 1 }
     }
+}
+
+impl TreeBounds for OneFromElsewhere {
+    ghost use Rattle.std.specs.Prelude.{nat_eq, if◌then◌else◌};
+    ghost use Rattle.shortest_forest.specs.Arcs.{IsLowerBound, both_ways};
+
+    ghost are_true = { λ _ board wire_length goals.
+        IsLowerBound board (both_ways wire_length) goals (λ f. if nat_eq f 2 then 0 else 1) };
+
+    ghost below = { λ _ _ _ _ true. true };
+
+    fn join(&mut self, _terminal: u32) {}
 }
 
 /// Wire 1 is long, and wire 3 is longer than wire 0.
@@ -149,13 +162,13 @@ fn caps_are_passed_by_no_tree(rt: HostRuntime) {
     assert_eq!(rt; graph.fpgas(), 4);
     assert_eq!(rt; graph.wires(), 4);
     let mut builder = TreeBuilder::new(rt.alloc(), &graph).expect(&rt, "memory");
-    let pair = builder.grow(&graph, &ByNumber, &NoBound, &[0, 2], 0, MOST_CAP);
+    let pair = builder.grow(&graph, &ByNumber, &mut NoBound, &[0, 2], 0, MOST_CAP);
     assert!(rt; pair == Ok(Some(1)));
     assert!(rt; builder.wires() == [0, 1].as_slice());
-    assert!(rt; builder.grow(&graph, &ByNumber, &NoBound, &[0, 2], 2, 1) == Ok(None));
-    assert!(rt; builder.grow(&graph, &ByNumber, &NoBound, &[0, 2], 2, 2) == Ok(Some(1)));
-    assert!(rt; builder.grow(&graph, &ByNumber, &NoBound, &[0, 1, 3], 0, 3) == Ok(None));
-    assert!(rt; builder.grow(&graph, &ByNumber, &NoBound, &[0, 1, 2], 2, 2) == Ok(Some(1)));
+    assert!(rt; builder.grow(&graph, &ByNumber, &mut NoBound, &[0, 2], 2, 1) == Ok(None));
+    assert!(rt; builder.grow(&graph, &ByNumber, &mut NoBound, &[0, 2], 2, 2) == Ok(Some(1)));
+    assert!(rt; builder.grow(&graph, &ByNumber, &mut NoBound, &[0, 1, 3], 0, 3) == Ok(None));
+    assert!(rt; builder.grow(&graph, &ByNumber, &mut NoBound, &[0, 1, 2], 2, 2) == Ok(Some(1)));
     assert!(rt; builder.wires() == [0, 1].as_slice());
 }
 
@@ -171,7 +184,7 @@ fn grow_pair(
     ensures { builder.new.fpgas ≡ builder.old.fpgas }
 {
     let _wires = graph.wires();
-    builder.grow(graph, &Alike(1), &OneFromElsewhere, &[0, 2], 0, cap)
+    builder.grow(graph, &Alike(1), &mut OneFromElsewhere, &[0, 2], 0, cap)
 }
 
 #[test]
@@ -198,7 +211,7 @@ fn the_longest_tree_has_an_exact_length(rt: HostRuntime) {
     let graph = longest_path(rt.alloc()).expect(&rt, "memory");
     let mut builder = TreeBuilder::new(rt.alloc(), &graph).expect(&rt, "memory");
     let longest = Alike(1 << 51);
-    let ends = builder.grow(&graph, &longest, &NoBound, &[0, 4095], 4095, MOST_CAP);
+    let ends = builder.grow(&graph, &longest, &mut NoBound, &[0, 4095], 4095, MOST_CAP);
     assert!(rt; ends == Ok(Some(4095 << 51)));
     let wires = builder.into_wires();
     assert!(rt; wires.len() == 4095 && wires[0] == 0 && wires[4094] == 4094);

@@ -1,13 +1,12 @@
 use Rattle.std.proofs.Common.{◌+◌, ◌*◌}
 use Rattle.std.specs.Prelude.{slice_index}
 use Rattle.board_graph.specs.Graph.{board_of}
-use Rattle.ripup_reroute.proofs.Bounding.{ways-below}
 use Rattle.ripup_reroute.proofs.Starts.{growth-made}
 use Rattle.ripup_reroute.proofs.growing.grow_from.Goals as goal
 
 pub grow-requires-2-clause-lawful : goal.grow-requires-2-clause-lawful
-grow-requires-2-clause-lawful c =
-    ways-below (board_of c.args.graph.now) c.args.table.now c.args.scale (λ e. 2 * slice_index c.args.lengths.now.loads.now e + c.args.lengths.now.own) c.requires.table c.requires.scaled c.args.start c.args.terminals.now c.requires.there
+grow-requires-2-clause-lawful c = λ goals others.
+    c.new-bounds.ensures.ways (board_of c.args.graph.now) (λ e. 2 * slice_index c.args.lengths.now.loads.now e + c.args.lengths.now.own) goals c.requires.table c.requires.scaled others
 
 pub returns-then-terminals-gt-MOST_BOUNDED-clause-grown : goal.returns-then-terminals-gt-MOST_BOUNDED-clause-grown
 returns-then-terminals-gt-MOST_BOUNDED-clause-grown c =

@@ -13,7 +13,7 @@ pub grow-requires-clause-start : goal.grow-requires-clause-start
 grow-requires-clause-start g c = Contains-get_or c.args.terminals.now 0 0 c.requires.some
 
 pub grow-requires-clause-lawful : goal.grow-requires-clause-lawful
-grow-requires-clause-lawful g c = λ f t es there other walk. omega arith
+grow-requires-clause-lawful g c = λ goals others. tt
 
 pub returns-in-Some-clause-minimal : goal.returns-in-Some-clause-minimal
 returns-in-Some-clause-minimal g c = λ board same.

@@ -6,6 +6,7 @@ use Rattle.tdm_problem.specs.Walk.{IsWalk, AnyWire}
 use Rattle.tdm_problem.specs.Distance.{length_of}
 use Rattle.board_graph.specs.Graph.{board_of}
 use Rattle.shortest_forest.proofs.BaselineLaws.{contains-cons}
+use Rattle.shortest_forest.proofs.WayLaws.{arc_walk-to_walk}
 use Rattle.steiner_build.proofs.tests.grow_pair.Goals as goal
 
 at_most_one : (b : Bool) → (if b then 0 else 1) ≤ 1
@@ -20,7 +21,10 @@ one-from_elsewhere board f [] walk =
 one-from_elsewhere board f (e ∷ es) walk = omega (arith, at_most_one (nat_eq f 2), sum_by-cons (λ _. 1) e es)
 
 pub grow-requires-clause-lawful : goal.grow-requires-clause-lawful
-grow-requires-clause-lawful c = λ f t es there other walk.
+grow-requires-clause-lawful c = λ goals others f es t total marked walk.
     let board = board_of c.args.graph.now in
-    let same : 2 ≡ t = ⊎_elim (λ zero. absurd (other (sym zero))) (λ rest. ⊎_elim (λ two. two) (λ none. absurd (omega (arith, none.1))) (contains-cons 2 t [] rest)) (contains-cons 0 t (2 ∷ []) there) in
-    one-from_elsewhere board f es (subst (λ (n : ℕ). IsWalk board (AnyWire board) f es n) (sym same) walk)
+    let among = (others t).0 marked in
+    let same : 2 ≡ t = ⊎_elim (λ zero. absurd (among.1 (sym zero))) (λ rest. ⊎_elim (λ two. two) (λ none. absurd (omega (arith, none.1))) (contains-cons 2 t [] rest)) (contains-cons 0 t (2 ∷ []) among.0) in
+    let way = arc_walk-to_walk board (λ _. 1) f es t total walk in
+    let least = one-from_elsewhere board f es (subst (λ (n : ℕ). IsWalk board (AnyWire board) f es n) (sym same) way.0) in
+    omega (arith, least, way.1)

@@ -8,14 +8,13 @@ use Rattle.board_graph.specs.Graph.{Graph, board_of, graph_of}
 use Rattle.steiner_build.specs.Building.{IsWithinWalks}
 use Rattle.steiner_build.specs.Joining.{IsSomeBeyond}
 use Rattle.steiner_build.proofs.JoiningLaws.{tree-minimal, tree-together}
-use Rattle.steiner_build.proofs.BuildLaws.{lower-bound, graph-minimal, whole-rising, whole-inside, whole-long, some-by, none-by, beyond-apart}
+use Rattle.steiner_build.proofs.BuildLaws.{graph-minimal, whole-rising, whole-inside, whole-long, some-by, none-by, beyond-apart}
 use Rattle.steiner_build.proofs.TakingLaws.{links-inside}
 use Rattle.shortest_forest.proofs.SameBoard.{IsConnectable-same}
 use Rattle.steiner_build.proofs.builder.TreeBuilder.grow.Goals as goal
 
 pub join_all-grown-requires-clause-lawful : goal.join_all-grown-requires-clause-lawful
-join_all-grown-requires-clause-lawful g c =
-    lower-bound (board_of c.args.graph.now) (g.Q.Lengths.length c.args.lengths.now) c.args.start c.args.terminals.now (g.B.LowerBounds.lower_bound c.args.bounds.now) c.mark-others.new.search.goals c.requires.lawful c.mark-others.ensures.goals
+join_all-grown-requires-clause-lawful g c = c.requires.lawful c.mark-others.new.search.goals c.mark-others.ensures.goals
 
 pub returns-clause-minimal : goal.returns-clause-minimal
 returns-clause-minimal g c =
