@@ -31,12 +31,7 @@ pub(crate) struct WayBounds<'a> {
 
 impl<'a> WayBounds<'a> {
     /// Bounds for a tree that begins at one of these terminals.
-    pub(crate) fn new(
-        table: &'a Table,
-        scale: u64,
-        terminals: &[u32],
-        start: u32,
-    ) -> WayBounds<'a>
+    pub(crate) fn new(table: &'a Table, scale: u64, terminals: &[u32], start: u32) -> WayBounds<'a>
         requires full { length table.now.distances.items ≡ table.now.fpgas * table.now.fpgas }
         requires small { All (λ d. d ≤ 2 ^ 51) table.now.distances.items }
         requires part { scale ≤ 4096 }

@@ -53,7 +53,14 @@ fn push_tree(
     ensures minimal { OnOk result ((board : Board) → graph.now ≡ graph_of board
         → IsMinimalTree board builder.new.wires terminals.now) }
 {
-    match builder.grow(graph, &Hops, &mut NoBound, terminals, terminals[0], MOST_CAP)? {
+    match builder.grow(
+        graph,
+        &Hops,
+        &mut NoBound,
+        terminals,
+        terminals[0],
+        MOST_CAP,
+    )? {
         Some(_) => trees.push_net(builder.wires()),
         None => Err(AllocError),
     }
