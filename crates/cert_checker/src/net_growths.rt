@@ -60,7 +60,7 @@ fn marked_nets(
     ensures weighed { IfOk result (λ marks. AreWeighed weights.now marks.items) }
     ensures whole { IfOk result (λ marks. (n : ℕ) → n < length problem.now.nets → 0 < slice_index weights.now n → HasNet marks.items n) }
 {
-    let mut marks = Vec::new(alloc);
+    let mut marks = Vec::with_capacity(alloc, problem.nets() as usize)?;
     for n in 0..problem.nets() {
         if weights[n as usize] == 0 {
             continue;
