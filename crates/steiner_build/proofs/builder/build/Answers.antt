@@ -1,4 +1,4 @@
-use Rattle.std.proofs.Common.{ℕ, List, ◌<◌, arith, sym, ap, ◌∙◌, subst, length, slice_index}
+use Rattle.std.proofs.Common.{ℕ, List, ◌<◌, sym, ap, ◌∙◌, subst, length, slice_index}
 use Rattle.std.specs.Prelude.{All}
 use Rattle.std.proofs.lemmas.List.Elements.{Contains-get_or}
 use Rattle.tdm_problem.specs.Walk.{IsMinimalTree}
