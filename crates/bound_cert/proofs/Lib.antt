@@ -4,6 +4,9 @@ pub mod LeastEven
 pub mod Nearer
 pub mod GrowthLaws
 pub mod OneGrowth
+pub mod LeastWays
+pub mod SomeGrowth
+pub mod Rising
 pub mod GrowthByHand
 pub mod NetSpreads
 pub mod HopBound

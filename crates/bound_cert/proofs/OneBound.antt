@@ -1,7 +1,8 @@
--- A certificate has one bound alone.
+-- A certificate has one bound, and no other.
 use Rattle.std.proofs.Common.{◌≡◌, ℕ, zero, suc, Bool, true, false, ◌-◌, ◌*◌, ◌<◌, length, refl, sym, ap, subst, ◌∙◌, arith}
 use Rattle.std.specs.Prelude.{Contains}
 use Rattle.tdm_problem.specs.Board.{Board}
+use Rattle.tdm_problem.specs.Legal.{terminals_of}
 use Rattle.tdm_problem.proofs.SumsBelow.{sum_below-agree}
 use Rattle.tdm_problem.proofs.Roots.{root_of-square}
 use Rattle.shortest_forest.proofs.BaselineLaws.{rising-same}
@@ -10,9 +11,11 @@ use Rattle.bound_cert.specs.declared.certificate.CertKind.TheVariants.{Share, Ho
 use Rattle.bound_cert.specs.Certificate.{Cert, length_of}
 use Rattle.bound_cert.specs.Growth.{IsNetGrowth, IsGrowth}
 use Rattle.bound_cert.specs.Bound.{IsSpreadBy, IsBound, demand_by, divisor_of, least_even, bound_of, net_spread, weight_of_net, root_of_net, root_sum, weight_sum}
-use Rattle.bound_cert.specs.Laws.{OneBoundLaw, ChosenBoundLaw}
+use Rattle.bound_cert.specs.Laws.{OneBoundLaw, SomeBoundLaw, ChosenBoundLaw}
 use Rattle.bound_cert.proofs.NetSpreads.{root_of-none}
 use Rattle.bound_cert.proofs.OneGrowth.{one_growth}
+use Rattle.bound_cert.proofs.SomeGrowth.{some_growth}
+use Rattle.bound_cert.proofs.Rising.{some_rising}
 
 -- a net grows by one number alone
 pub one_net_growth : (board : Board) (wire_length : ℕ → ℕ) (n growth other : ℕ) → IsNetGrowth board wire_length n growth → IsNetGrowth board wire_length n other → growth ≡ other
@@ -57,3 +60,18 @@ chosen_bound board cert chosen = record {
   are = λ n there weighs. subst (λ (grows : Bool). IsSpreadBy grows board cert n (net_spread board cert n)) (sym chosen) refl;
   bound_is = refl;
 }
+
+-- a net grows by some number
+some_net_growth : (board : Board) (wire_length : ℕ → ℕ) (n : ℕ) → (growth : ℕ) × IsNetGrowth board wire_length n growth
+some_net_growth board wire_length n =
+    let rising = some_rising (terminals_of board n) in
+    let grown = some_growth board wire_length rising.0 in
+    (grown.0, record { rising = rising.0; are = rising.1; grows = grown.1 })
+
+some_spread : (grows : Bool) (board : Board) (cert : Cert) (n : ℕ) → (spread : ℕ) × IsSpreadBy grows board cert n spread
+some_spread true board cert n = some_net_growth board (length_of cert) n
+some_spread false board cert n = (net_spread board cert n, refl)
+
+pub some_bound : SomeBoundLaw
+some_bound board cert =
+    (_, record { spreads = λ n. (some_spread cert.grows board cert n).0; are = λ n there weighs. (some_spread cert.grows board cert n).1; bound_is = refl })

@@ -46,7 +46,7 @@ module _ (board : Board) where
       let worn_agree : Agree (worn rests heights) (worn other levels) = λ e v u links. omega (arith, agree e v u links, even v, even u) in
       omega (arith, equal, is, at, one-over root xs (worn rests heights) (worn other levels) worn_agree rest left grows goes)
 
-  any-walk : (arcs : Arcs) (a : ℕ) (es : List ℕ) (b total : ℕ) → IsArcWalk board arcs a es b total → IsWalk board (AnyWire board) a es b
+  pub any-walk : (arcs : Arcs) (a : ℕ) (es : List ℕ) (b total : ℕ) → IsArcWalk board arcs a es b total → IsWalk board (AnyWire board) a es b
   any-walk arcs a [] b total walk = walk.0
   any-walk arcs a (e ∷ es) b total walk = (AnyWire-from_links board e a walk.0 walk.1, (walk.0, walk.1, any-walk arcs walk.0 es b walk.2.0 walk.2.1))
 

@@ -62,3 +62,8 @@ GrowthLaw = (board : Board) (wire_length : ℕ → ℕ) (wires fpgas : List ℕ)
 abbrev pub OneGrowthLaw : Type 0
 OneGrowthLaw = (board : Board) (wire_length : ℕ → ℕ) (fpgas : List ℕ) (growth other : ℕ)
     → IsGrowth board wire_length fpgas growth → IsGrowth board wire_length fpgas other → growth ≡ other
+
+-- FPGAs grow by some number
+abbrev pub SomeGrowthLaw : Type 0
+SomeGrowthLaw = (board : Board) (wire_length : ℕ → ℕ) (fpgas : List ℕ)
+    → (growth : ℕ) × IsGrowth board wire_length fpgas growth

@@ -40,6 +40,10 @@ abbrev pub OneBoundLaw : Type 0
 OneBoundLaw = (board : Board) (cert : Cert) (bound other : ℕ) → IsBound board cert bound →
     IsBound board cert other → bound ≡ other
 
+-- a certificate has a bound
+abbrev pub SomeBoundLaw : Type 0
+SomeBoundLaw = (board : Board) (cert : Cert) → (bound : ℕ) × IsBound board cert bound
+
 -- where nets do not grow, the bound is that by their choices
 abbrev pub ChosenBoundLaw : Type 0
 ChosenBoundLaw = (board : Board) (cert : Cert) → cert.grows ≡ false → IsBound board cert (bound_of board cert)

@@ -1,6 +1,6 @@
 //! Laws on certificates and their bounds, which hold by the definitions alone.
-ghost use Rattle.bound_cert.specs.Laws.{SpreadLaw, LeastEvenLaw, DualBoundLaw, OneBoundLaw, ChosenBoundLaw};
-ghost use Rattle.bound_cert.specs.Growth.{GrowthLaw, OneGrowthLaw};
+ghost use Rattle.bound_cert.specs.Laws.{SpreadLaw, LeastEvenLaw, DualBoundLaw, OneBoundLaw, SomeBoundLaw, ChosenBoundLaw};
+ghost use Rattle.bound_cert.specs.Growth.{GrowthLaw, OneGrowthLaw, SomeGrowthLaw};
 
 /// Where a potential rises along no wire, either way, by more than the wire's length, wires that join FPGAs
 /// are together at least as long as the potential's largest value at these less its least.
@@ -20,16 +20,18 @@ pub fn dual_bound()
     ensures { DualBoundLaw }
 {}
 
-/// A certificate has one bound alone, and one by choices has a bound, which is what they come to.
+/// A certificate has one bound and no other; that of one by choices is what they come to.
 pub fn bound_is_one()
     ensures one { OneBoundLaw }
+    ensures some { SomeBoundLaw }
     ensures chosen { ChosenBoundLaw }
 {}
 
 /// What joins FPGAs is at least as long as these grow: each in turn, but the first, until it reaches one that has not
 /// grown, over what the others have left of each wire's length in each direction. Source: the ascent on directed cuts
-/// (Wong, 1984). They grow by one number alone.
+/// (Wong, 1984). They grow by one number and no other.
 pub fn growth_is_short()
     ensures short { GrowthLaw }
     ensures one { OneGrowthLaw }
+    ensures some { SomeGrowthLaw }
 {}
