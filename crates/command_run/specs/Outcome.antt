@@ -1,5 +1,5 @@
 -- What a run comes to.
-use Rattle.std.specs.Prelude.{◌≢◌, ℕ, List, Option, Some, None, map}
+use Rattle.std.specs.Prelude.{ℕ, List, Option, Some, None, map}
 use Rattle.tdm_desk.specs.declared.slots.InSlot.{InSlot}
 use Rattle.tdm_desk.specs.Files.{Bytes}
 use Rattle.tdm_desk.specs.Counts.{Counts, ReadingFailed, read_counted}
@@ -11,15 +11,6 @@ pub record Faults (S : Type 0) : Type 0 where
   pub read_fault : S
   pub write_fault : S
   pub out_of_memory : S
-
--- no two of them are the same
-pub record AreApart {S : Type 0} (faults : Faults S) : Type 0 where
-  pub missing_unread : faults.no_input ≢ faults.read_fault
-  pub missing_unwritten : faults.no_input ≢ faults.write_fault
-  pub missing_wanting : faults.no_input ≢ faults.out_of_memory
-  pub unread_unwritten : faults.read_fault ≢ faults.write_fault
-  pub unread_wanting : faults.read_fault ≢ faults.out_of_memory
-  pub unwritten_wanting : faults.write_fault ≢ faults.out_of_memory
 
 -- how many inputs were opened, the one that could not be read, if one, the status, the report, and the text of each output
 pub record Outcome (S : Type 0) : Type 0 where

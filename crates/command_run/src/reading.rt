@@ -37,7 +37,6 @@ fn feed_piece<D: Desk, R: TextReader>(
         (λ rest. rest ≡ [])) }
     ensures err { OnErr result (SomeTaken slot (D.seen desk.old) (D.seen desk.new)) }
     ensures kind { R.kind reader.new ≡ R.kind reader.old }
-    ensures known { (value : R.Value) → R.known reader.new value → R.known reader.old value }
     ensures limit { R.limit reader.new ≡ R.limit reader.old }
     ensures failed { IsErrOf result DeskFault.Failed →
         ReadingFailed D.counts D.steady slot desk.old desk.new }
@@ -64,7 +63,6 @@ fn feed_input<D: Desk, R: TextReader>(
         (rest_of slot (D.seen desk.old))) }
     ensures err { OnErr result (SomeTaken slot (D.seen desk.old) (D.seen desk.new)) }
     ensures kind { R.kind reader.new ≡ R.kind reader.old }
-    ensures known { (value : R.Value) → R.known reader.new value → R.known reader.old value }
     ensures limit { R.limit reader.new ≡ R.limit reader.old }
     ensures failed { IsErrOf result DeskFault.Failed →
         ReadingFailed D.counts D.steady slot desk.old desk.new }
@@ -101,7 +99,6 @@ fn fill<D: Desk, R: TextReader>(
         (λ files. get files name.now ≡ None)) }
     ensures only { OnlyReads (place slot - 1) (place slot) (D.seen desk.old) (D.seen desk.new) }
     ensures kind { R.kind reader.new ≡ R.kind reader.old }
-    ensures known { (value : R.Value) → R.known reader.new value → R.known reader.old value }
     ensures limit { R.limit reader.new ≡ R.limit reader.old }
     ensures failed { IsErrOf result DeskFault.Failed →
         ReadingFailed D.counts D.steady slot desk.old desk.new }
@@ -153,7 +150,6 @@ pub fn read_input<D: Desk, T: OutputText, R: TextReader>(
     requires none { R.fed reader ≡ 0 }
     ensures ok { IfOk result (λ value. Had D.counts D.seen (R.kind reader)
         (record { slot = slot; name = name.now; limit = R.limit reader }) value desk.old desk.new) }
-    ensures known { IfOk result (R.known reader) }
     ensures err { IfErr result (DecidesEarly D.counts D.steady D.seen T.text R.Status.faults
         (R.kind reader) (record { slot = slot; name = name.now; limit = R.limit reader })
         desk.old desk.new) }

@@ -1,15 +1,11 @@
 //! The statuses that runs of all commands have in common.
 ghost use Rattle.std.specs.Prelude.{◌≡◌};
-ghost use Rattle.command_run.specs.Outcome.{Faults, AreApart};
+ghost use Rattle.command_run.specs.Outcome.{Faults};
 
 /// How a run ends: a status of the command's own, or one of these.
 pub trait RunStatus: Copy {
     // these statuses
     ghost faults: { Faults Self };
-
-    /// No two of these statuses are the same. Nothing is done.
-    fn apart()
-        ensures { AreApart faults };
 
     /// An input has no file of its name.
     fn no_input() -> Self

@@ -35,9 +35,6 @@ pub trait TextReader: Drop {
     // the most bytes that a text may have
     ghost limit: { Self → ℕ };
 
-    // what else is known of a value that a text says
-    ghost known: { Self → Self.Value → Type 0 };
-
     // the bytes that the reader may have been fed so far
     ghost is_at: { Self → List ℕ → Type 0 };
 
@@ -63,13 +60,11 @@ pub trait TextReader: Drop {
         ensures at { OnOk result ((text : List ℕ) → is_at self.old text → is_at self.new (text ++ piece.now)) }
         ensures fed { OnOk result (fed self.new ≡ fed self.old + length piece.now) }
         ensures kind { kind self.new ≡ kind self.old }
-        ensures known { (value : Self.Value) → known self.new value → known self.old value }
         ensures limit { limit self.new ≡ limit self.old };
 
     /// What the text that it was fed says.
     fn end(self) -> Result<Self::Value, TextFault<Self::Refusal>>
         ensures ok { IfOk result (λ value. (text : List ℕ) → is_at self text → (kind self).says text ≡ Ok value) }
-        ensures known { IfOk result (known self) }
         ensures fault { IfErr result (λ fault. (text : List ℕ) → is_at self text
             → IsFaultOf ((kind self).says text) fault) };
 

@@ -61,6 +61,14 @@ module _ {D : Type 0} (counts : D → Counts) (steady : D → Type 0) (seen : D 
           stop (inl fault) = unwritten fault.0 fault.1
           stop (inr wanted) = wanting ends.outcome.unread wanted.0 wanted.1
 
+  -- at a status of the command's own an outcome was put out of which all inputs could be read
+  pub ended-own : Ends → (IsOutsideFault answer → ⊥) → (P : Type 0)
+      → ((outcome : Outcome Status) → Came outcome → Put outcome → KeepsOutputsBehind (length outcome.texts) (seen before) (seen after) → IsDecided request outcome → P) → P
+  ended-own ends no_fault P whole = ended ends P whole
+      (λ slot near came put kept. absurd (no_fault (subst IsOutsideFault (sym put.stands) tt)))
+      (λ is failed. absurd (no_fault (subst IsOutsideFault (sym is) tt)))
+      (λ u is own. absurd (no_fault (subst IsOutsideFault (sym is) tt)))
+
   -- the status is the command's own
   decided-own : (outcome : Outcome Status) → Put outcome → IsDecided request outcome → IsOwn answer
   decided-own outcome put decided = subst IsOwn (sym put.stands) decided.own
@@ -115,25 +123,15 @@ module _ {D : Type 0} (counts : D → Counts) (steady : D → Type 0) (seen : D 
 
   -- no count rose at a status of the command's own
   pub run-uncounted : Ends → (IsOutsideFault answer → ⊥) → counts after ≡ counts before
-  run-uncounted ends no_fault = ended ends (counts after ≡ counts before)
+  run-uncounted ends no_fault = ended-own ends no_fault (counts after ≡ counts before)
       (λ outcome came put kept decided. put.own ∙ ap (λ u. with_unread u (counts before)) decided.readable)
-      (λ slot near came put kept. absurd (no_fault (subst IsOutsideFault (sym put.stands) tt)))
-      (λ is failed. absurd (no_fault (subst IsOutsideFault (sym is) tt)))
-      (λ u is own. absurd (no_fault (subst IsOutsideFault (sym is) tt)))
 
   pub run-usage : Ends → answer ≡ status.Usage → IsNothing request
-  run-usage ends usage = ended ends (IsNothing request)
-      (λ outcome came put kept decided. decided.usage (sym put.stands ∙ usage))
-      (λ slot near came put kept. absurd (let e : status.Usage ≡ status.ReadFault = sym usage ∙ put.stands in cc))
-      (λ is failed. absurd (let e : status.Usage ≡ status.WriteFault = sym usage ∙ is in cc))
-      (λ u is own. absurd (let e : status.Usage ≡ status.OutOfMemory = sym usage ∙ is in cc))
+  run-usage ends usage = ended-own ends (subst IsOutsideFault usage) (IsNothing request) (λ outcome came put kept decided. decided.usage (sym put.stands ∙ usage))
 
   pub run-closed : Ends → answer ≡ status.Ok → AreClosed (length (outputs_of request)) (seen after)
-  run-closed ends ok = ended ends (AreClosed (length (outputs_of request)) (seen after))
+  run-closed ends ok = ended-own ends (subst IsOutsideFault ok) (AreClosed (length (outputs_of request)) (seen after))
       (λ outcome came put kept decided. subst (λ n. AreClosed n (seen after)) (decided.written (sym put.stands ∙ ok)) put.closed)
-      (λ slot near came put kept. absurd (let e : status.Ok ≡ status.ReadFault = sym ok ∙ put.stands in cc))
-      (λ is failed. absurd (let e : status.Ok ≡ status.WriteFault = sym ok ∙ is in cc))
-      (λ u is own. absurd (let e : status.Ok ≡ status.OutOfMemory = sym ok ∙ is in cc))
 
   -- where a count rose, it was told: of writing as such, of reading unless writing failed or memory was wanting behind it
   pub run-told_writing : Ends → write_faults (counts before) < write_faults (counts after) → answer ≡ status.WriteFault

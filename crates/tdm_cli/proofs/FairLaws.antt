@@ -7,13 +7,13 @@ use Rattle.tdm_desk.specs.Files.{Bytes}
 use Rattle.tdm_problem.specs.Board.{Board}
 use Rattle.tdm_problem.specs.Routing.{Routing}
 use Rattle.solution_eval.specs.declared.judgement.Verdict.{Verdict}
-use Rattle.solution_eval.specs.declared.judgement.Verdict.TheVariants.{Legal, NotJoined, BadRatio, Overfull}
+use Rattle.solution_eval.specs.declared.judgement.Verdict.TheVariants.{Legal}
 use Rattle.bound_cert.specs.Certificate.{Cert}
 use Rattle.cert_checker.specs.declared.answer.CheckAnswer.{CheckAnswer}
 use Rattle.cert_checker.specs.declared.answer.CheckAnswer.TheVariants.{Accepted, Rejected}
 use Rattle.command_run.specs.Slots.{place}
 use Rattle.command_run.specs.Outcome.{Outcome}
-use Rattle.command_run.specs.Inputs.{Content, missing, unread, ByNone}
+use Rattle.command_run.specs.Inputs.{Content, TextKind, unread, ByInput, ByNone}
 use Rattle.command_run.proofs.StatusLaws.{by-input, by-none}
 use Rattle.tdm_cli.specs.declared.status.Status.{Status}
 use Rattle.tdm_cli.specs.declared.status.Status.TheVariants as status
@@ -62,30 +62,33 @@ silent request opened s report near reached own usage written = inr (record {
   written = written;
 })
 
-routes-fair : (board solution cert : Bytes) (rounds : ℕ) (problem : Board) (outcome : Outcome Status) → Routes problem rounds outcome → IsFair (route board solution cert rounds) outcome
-routes-fair board solution cert rounds problem outcome (is_unconnectable nets are some is) =
-    subst (IsFair (route board solution cert rounds)) (sym is) (silent (route board solution cert rounds) 1 status.Unconnectable _ (omega arith) (λ e. cc) tt (λ e. cc) (λ e. cc))
-routes-fair board solution cert rounds problem outcome (is_over_limit over is) =
-    subst (IsFair (route board solution cert rounds)) (sym is) (silent (route board solution cert rounds) 1 status.UseLimit _ (omega arith) (λ e. cc) tt (λ e. cc) (λ e. cc))
-routes-fair board solution cert rounds problem outcome (is_routed routing proof improved is) =
-    subst (IsFair (route board solution cert rounds)) (sym is) (inr (record {
-      readable = refl;
-      opened = omega arith;
-      reached = λ e. omega arith;
-      own = tt;
-      usage = λ e. cc;
-      silent = inl refl;
-      written = λ e. refl;
-    }))
+-- an outcome that writes every output, behind all inputs
+whole : (request : Request) (report : Bytes) (texts : List Bytes) → length texts ≡ length (outputs_of request) → IsFair request (comes_to (length (inputs_of request)) status.Ok report texts)
+whole request report texts all = inr (record {
+  readable = refl;
+  opened = omega arith;
+  reached = λ e. omega arith;
+  own = tt;
+  usage = λ e. cc;
+  silent = inl refl;
+  written = λ e. all;
+})
+
+module _ (board solution cert : Bytes) (rounds : ℕ) where
+  abbrev routing : Request
+  routing = route board solution cert rounds
+
+  routes-fair : (problem : Board) (outcome : Outcome Status) → Routes problem rounds outcome → IsFair routing outcome
+  routes-fair problem outcome (is_unconnectable nets are some is) = subst (IsFair routing) (sym is) (silent routing 1 status.Unconnectable _ (omega arith) (λ e. cc) tt (λ e. cc) (λ e. cc))
+  routes-fair problem outcome (is_over_limit over is) = subst (IsFair routing) (sym is) (silent routing 1 status.UseLimit _ (omega arith) (λ e. cc) tt (λ e. cc) (λ e. cc))
+  routes-fair problem outcome (is_routed solved proof bound improved is) = subst (IsFair routing) (sym is) (whole routing _ _ refl)
 
 judges-fair : (board solution : Bytes) (problem : Board) (routing : Routing) (outcome : Outcome Status) → Judges problem routing outcome → IsFair (eval board solution) outcome
 judges-fair board solution problem routing outcome judges = subst (IsFair (eval board solution)) (sym judges.is) (by judges.verdict)
   where
     by : (verdict : Verdict) → IsFair (eval board solution) (comes_to 2 (status_of_verdict verdict) (verdict_report verdict) [])
     by (Legal value) = silent (eval board solution) 2 status.Ok _ (omega arith) (λ e. omega arith) tt (λ e. cc) (λ e. refl)
-    by (NotJoined net) = silent (eval board solution) 2 status.Illegal _ (omega arith) (λ e. omega arith) tt (λ e. cc) (λ e. refl)
-    by (BadRatio net wire ratio) = silent (eval board solution) 2 status.Illegal _ (omega arith) (λ e. omega arith) tt (λ e. cc) (λ e. refl)
-    by (Overfull wire) = silent (eval board solution) 2 status.Illegal _ (omega arith) (λ e. omega arith) tt (λ e. cc) (λ e. refl)
+    by _ = silent (eval board solution) 2 status.Illegal _ (omega arith) (λ e. omega arith) tt (λ e. cc) (λ e. refl)
 
 checks-fair : (board cert : Bytes) (problem : Board) (proof : Cert) (outcome : Outcome Status) → Checks problem proof outcome → IsFair (check board cert) outcome
 checks-fair board cert problem proof outcome checks = subst (IsFair (check board cert)) (sym checks.is) (by checks.answer)
@@ -95,67 +98,40 @@ checks-fair board cert problem proof outcome checks = subst (IsFair (check board
     by (Rejected pair) = silent (check board cert) 2 status.CertRejected _ (omega arith) (λ e. omega arith) tt (λ e. cc) (λ e. refl)
 
 generates-fair : (fpgas nets groups : ℕ) (board : Bytes) (outcome : Outcome Status) → Generates fpgas nets groups outcome → IsFair (gen fpgas nets groups board) outcome
-generates-fair fpgas nets groups board outcome generates =
-    subst (IsFair (gen fpgas nets groups board)) (sym generates.is) (inr (record {
-      readable = refl;
-      opened = omega arith;
-      reached = λ e. omega arith;
-      own = tt;
-      usage = λ e. cc;
-      silent = inl refl;
-      written = λ e. refl;
-    }))
+generates-fair fpgas nets groups board outcome generates = subst (IsFair (gen fpgas nets groups board)) (sym generates.is) (whole (gen fpgas nets groups board) _ _ refl)
 
 demonstrates-fair : (fpgas nets groups : ℕ) (solution cert : Bytes) (outcome : Outcome Status) → Demonstrates fpgas nets groups outcome → IsFair (demo fpgas nets groups solution cert) outcome
 demonstrates-fair fpgas nets groups solution cert outcome (is_too_large over is) =
     subst (IsFair (demo fpgas nets groups solution cert)) (sym is) (silent (demo fpgas nets groups solution cert) 0 status.UseLimit _ (omega arith) (λ e. cc) tt (λ e. cc) (λ e. cc))
-demonstrates-fair fpgas nets groups solution cert outcome (is_shown routing proof improved is) =
-    subst (IsFair (demo fpgas nets groups solution cert)) (sym is) (inr (record {
-      readable = refl;
-      opened = omega arith;
-      reached = λ e. omega arith;
-      own = tt;
-      usage = λ e. cc;
-      silent = inl refl;
-      written = λ e. refl;
-    }))
+demonstrates-fair fpgas nets groups solution cert outcome (is_shown solved proof bound improved is) =
+    subst (IsFair (demo fpgas nets groups solution cert)) (sym is) (whole (demo fpgas nets groups solution cert) _ _ refl)
 
--- what an input decides by itself is fair of every request that has it
-module _ (request : Request) (slot : InSlot) (near : place slot ≤ length (inputs_of request)) where
-  missing-fair : IsFair request (missing faults slot)
-  missing-fair = silent request (place slot) status.NoInput _ near (λ e. cc) tt (λ e. cc) (λ e. cc)
+-- the status is one of a text that is refused
+abbrev IsRefusal : Status → Type 0
+IsRefusal s = IsOwn s × (s ≡ status.Usage → ⊥) × (s ≡ status.Ok → ⊥)
 
-  unread-fair : IsFair request (unread faults slot)
-  unread-fair = inl (slot, near, refl)
-
-  refused-fair : (s : Status) (report : Bytes) → IsOwn s → (s ≡ status.Usage → ⊥) → (s ≡ status.Ok → ⊥) → IsFair request (comes_to (place slot) s report [])
-  refused-fair s report own usage ok = silent request (place slot) s report near (λ e. absurd (ok e)) own (λ e. absurd (usage e)) (λ e. absurd (ok e))
+-- what an input decides by itself is fair of every request that has it, and so all is where what follows from its text is
+input-fair : (request : Request) (slot : InSlot) → place slot ≤ length (inputs_of request) → {V R : Type 0} (kind : TextKind Status V R) → IsRefusal kind.status
+    → (Then : V → List Content → Outcome Status → Type 0) → ((value : V) (contents : List Content) (outcome : Outcome Status) → Then value contents outcome → IsFair request outcome)
+    → (contents : List Content) (outcome : Outcome Status) → ByInput faults slot kind Then contents outcome → IsFair request outcome
+input-fair request slot near kind own Then each = by-input faults slot kind Then (λ contents outcome. IsFair request outcome)
+    (λ rest. itself status.NoInput _ (tt, (λ e. cc), (λ e. cc)))
+    (λ rest. inl (slot, near, refl))
+    (λ bytes refusal rest says. itself kind.status _ own)
+    (λ bytes value rest outcome says. each value rest outcome)
+  where
+    itself : (s : Status) (report : Bytes) → IsRefusal s → IsFair request (comes_to (place slot) s report [])
+    itself s report refused = silent request (place slot) s report near (λ e. absurd (refused.2 e)) refused.0 (λ e. absurd (refused.1 e)) (λ e. absurd (refused.2 e))
 
 pub fair : (request : Request) (contents : List Content) (outcome : Outcome Status) → CallsFor request contents outcome → IsFair request outcome
-fair (route board solution cert rounds) = by-input faults In0 boards (λ problem. ByNone (Routes problem rounds)) (λ contents outcome. IsFair (route board solution cert rounds) outcome)
-    (λ rest. missing-fair (route board solution cert rounds) In0 (omega arith)) (λ rest. unread-fair (route board solution cert rounds) In0 (omega arith))
-    (λ bytes refusal rest says. refused-fair (route board solution cert rounds) In0 (omega arith) status.BoardRefused _ tt (λ e. cc) (λ e. cc))
-    (λ bytes problem rest outcome says then. by-none (IsFair (route board solution cert rounds)) (Routes problem rounds) (routes-fair board solution cert rounds problem) rest outcome then)
-fair (eval board solution) = by-input faults In0 boards JudgesNext (λ contents outcome. IsFair (eval board solution) outcome)
-    (λ rest. missing-fair (eval board solution) In0 (omega arith)) (λ rest. unread-fair (eval board solution) In0 (omega arith))
-    (λ bytes refusal rest says. refused-fair (eval board solution) In0 (omega arith) status.BoardRefused _ tt (λ e. cc) (λ e. cc))
-    (λ bytes problem rest outcome says then. next problem rest outcome then)
-  where
-    next : (problem : Board) (contents : List Content) (outcome : Outcome Status) → JudgesNext problem contents outcome → IsFair (eval board solution) outcome
-    next problem = by-input faults In1 (solutions problem) (λ routing. ByNone (Judges problem routing)) (λ contents outcome. IsFair (eval board solution) outcome)
-        (λ rest. missing-fair (eval board solution) In1 (omega arith)) (λ rest. unread-fair (eval board solution) In1 (omega arith))
-        (λ bytes refusal rest says. refused-fair (eval board solution) In1 (omega arith) status.SolutionRefused _ tt (λ e. cc) (λ e. cc))
-        (λ bytes routing rest outcome says then. by-none (IsFair (eval board solution)) (Judges problem routing) (judges-fair board solution problem routing) rest outcome then)
-fair (check board cert) = by-input faults In0 boards ChecksNext (λ contents outcome. IsFair (check board cert) outcome)
-    (λ rest. missing-fair (check board cert) In0 (omega arith)) (λ rest. unread-fair (check board cert) In0 (omega arith))
-    (λ bytes refusal rest says. refused-fair (check board cert) In0 (omega arith) status.BoardRefused _ tt (λ e. cc) (λ e. cc))
-    (λ bytes problem rest outcome says then. next problem rest outcome then)
-  where
-    next : (problem : Board) (contents : List Content) (outcome : Outcome Status) → ChecksNext problem contents outcome → IsFair (check board cert) outcome
-    next problem = by-input faults In1 (certificates problem) (λ proof. ByNone (Checks problem proof)) (λ contents outcome. IsFair (check board cert) outcome)
-        (λ rest. missing-fair (check board cert) In1 (omega arith)) (λ rest. unread-fair (check board cert) In1 (omega arith))
-        (λ bytes refusal rest says. refused-fair (check board cert) In1 (omega arith) status.CertRefused _ tt (λ e. cc) (λ e. cc))
-        (λ bytes proof rest outcome says then. by-none (IsFair (check board cert)) (Checks problem proof) (checks-fair board cert problem proof) rest outcome then)
+fair (route board solution cert rounds) = input-fair (routing board solution cert rounds) In0 (omega arith) boards (tt, (λ e. cc), (λ e. cc)) (λ problem. ByNone (Routes problem rounds))
+    (λ problem. by-none (IsFair (routing board solution cert rounds)) (Routes problem rounds) (routes-fair board solution cert rounds problem))
+fair (eval board solution) = input-fair (eval board solution) In0 (omega arith) boards (tt, (λ e. cc), (λ e. cc)) JudgesNext
+    (λ problem. input-fair (eval board solution) In1 (omega arith) (solutions problem) (tt, (λ e. cc), (λ e. cc)) (λ solved. ByNone (Judges problem solved))
+    (λ solved. by-none (IsFair (eval board solution)) (Judges problem solved) (judges-fair board solution problem solved)))
+fair (check board cert) = input-fair (check board cert) In0 (omega arith) boards (tt, (λ e. cc), (λ e. cc)) ChecksNext
+    (λ problem. input-fair (check board cert) In1 (omega arith) (certificates problem) (tt, (λ e. cc), (λ e. cc)) (λ proof. ByNone (Checks problem proof))
+    (λ proof. by-none (IsFair (check board cert)) (Checks problem proof) (checks-fair board cert problem proof)))
 fair (gen fpgas nets groups board) = by-none (IsFair (gen fpgas nets groups board)) (Generates fpgas nets groups) (generates-fair fpgas nets groups board)
 fair (demo fpgas nets groups solution cert) = by-none (IsFair (demo fpgas nets groups solution cert)) (Demonstrates fpgas nets groups) (demonstrates-fair fpgas nets groups solution cert)
 fair nothing = by-none (IsFair nothing) (λ outcome. outcome ≡ refused_words) (λ outcome is. subst (IsFair nothing) (sym is) (silent nothing 0 status.Usage _ (omega arith) (λ e. omega arith) tt (λ e. tt) (λ e. cc)))

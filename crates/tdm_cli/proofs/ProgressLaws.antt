@@ -1,12 +1,12 @@
 -- What one more net adds to the baseline so far.
-use Rattle.std.proofs.Common.{◌≡◌, ◌⊎◌, ◌↔◌, ℕ, zero, suc, ◌+◌, ◌<◌, ◌≤◌, List, [], ◌∷◌, ◌++◌, length, slice_index_or, slice_index, refl, sym, ap, subst, ◌∙◌, inl, inr, arith, Contains, length-append, zero-add}
-use Rattle.std.specs.Prelude.{sum_by, nat_lt, Bool, true, false}
+use Rattle.std.proofs.Common.{◌≡◌, ◌⊎◌, ◌↔◌, ℕ, zero, suc, ◌+◌, ◌<◌, ◌≤◌, List, [], ◌∷◌, ◌++◌, length, slice_index, refl, sym, ap, subst, ◌∙◌, inl, inr, arith, Contains, length-append, zero-add}
+use Rattle.std.specs.Prelude.{sum_by}
 use Rattle.std.specs.List.Sorted.{IsStrictlyIncreasing}
-use Rattle.std.proofs.lemmas.List.{get_or_append_left}
+use Rattle.std.proofs.lemmas.List.{get_or_append_left, get_or_default}
 use Rattle.std.proofs.lemmas.List.Sums.{sum_by-append}
 use Rattle.std.proofs.lemmas.List.Elements.{Contains-append_left, Contains-append_right, Contains-append_cases}
 use Rattle.std.proofs.Math.Seq.{get_or-append_seam}
-use Rattle.std.proofs.lemmas.Bool.{ltb-true, ltb-false}
+use Rattle.std.proofs.Math.Nat.{eq-or-lt_of_le}
 use Rattle.tdm_problem.specs.Board.{Board}
 use Rattle.tdm_problem.specs.Walk.{IsConnectable}
 use Rattle.tdm_problem.specs.Legal.{terminals_of, source_of}
@@ -18,17 +18,11 @@ use Rattle.tdm_cli.specs.Progress.{AreBasedSoFar, IsProgress}
 
 -- a number below the next is below this one, or is this one
 split-below : (k n : ℕ) → k < n + 1 → (k < n) ⊎ (k ≡ n)
-split-below k n h = by (nat_lt k n) refl
+split-below k n h = by (eq-or-lt_of_le {n = k} {m = n} (omega (arith, h)))
   where
-    by : (b : Bool) → nat_lt k n ≡ b → (k < n) ⊎ (k ≡ n)
-    by true e = inl (ltb-true k n e)
-    by false e = let above : n ≤ k = ltb-false k n e in inr (omega arith)
-
--- an element is at its own place
-own-place : (ys : List ℕ) (j : ℕ) → j < length ys → slice_index_or ys j (slice_index ys j) ≡ slice_index ys j
-own-place [] j m = absurd (omega arith)
-own-place (y ∷ ys) zero m = refl
-own-place (y ∷ ys) (suc j) m = own-place ys j (omega (arith, m))
+    by : (k ≡ n) ⊎ (k < n) → (k < n) ⊎ (k ≡ n)
+    by (inl same) = inr same
+    by (inr below) = inl below
 
 -- a number behind all others keeps a list rising
 rising-more : (xs : List ℕ) (n : ℕ) → IsStrictlyIncreasing xs → ((x : ℕ) → Contains xs x → x < n) → IsStrictlyIncreasing (xs ++ n ∷ [])
@@ -36,7 +30,7 @@ rising-more xs n rising below k h = by (split-below (k + 1) (length xs) (omega (
   where
     by : (k + 1 < length xs) ⊎ (k + 1 ≡ length xs) → slice_index (xs ++ n ∷ []) k < slice_index (xs ++ n ∷ []) (k + 1)
     by (inl inside) = rw (get_or_append_left xs (n ∷ []) 0 k (omega arith), get_or_append_left xs (n ∷ []) 0 (k + 1) inside) (rising k inside)
-    by (inr last) = rw (get_or_append_left xs (n ∷ []) 0 k (omega arith), last, get_or-append_seam xs n [] 0) (below (slice_index xs k) (k, omega arith, own-place xs k (omega arith)))
+    by (inr last) = rw (get_or_append_left xs (n ∷ []) 0 k (omega arith), last, get_or-append_seam xs n [] 0) (below (slice_index xs k) (k, omega arith, get_or_default xs k (slice_index xs k) 0 (omega arith)))
 
 only-last : (n k : ℕ) → Contains (n ∷ []) k → n ≡ k
 only-last n k (zero, h, e) = e

@@ -17,20 +17,13 @@ if-none None P Q then h = then h
 
 -- a list of three elements is those at its three places
 pub three : {A : Type 0} (xs : List A) (a b c : A) → 3 ≤ length xs → length xs < 4 → a ≡ slice_index_or xs 0 a → b ≡ slice_index_or xs 1 b → c ≡ slice_index_or xs 2 c → xs ≡ a ∷ b ∷ c ∷ []
-three [] a b c low high ea eb ec = absurd (omega arith)
-three (x ∷ []) a b c low high ea eb ec = absurd (omega arith)
-three (x ∷ y ∷ []) a b c low high ea eb ec = absurd (omega arith)
 three (x ∷ y ∷ z ∷ []) a b c low high ea eb ec = cc
-three (x ∷ y ∷ z ∷ w ∷ ws) a b c low high ea eb ec = absurd (omega arith)
+three _ a b c low high ea eb ec = absurd (omega arith)
 
 -- a list of four elements is those at its four places
 pub four : {A : Type 0} (xs : List A) (a b c d : A) → 4 ≤ length xs → length xs < 5 → a ≡ slice_index_or xs 0 a → b ≡ slice_index_or xs 1 b → c ≡ slice_index_or xs 2 c → d ≡ slice_index_or xs 3 d → xs ≡ a ∷ b ∷ c ∷ d ∷ []
-four [] a b c d low high ea eb ec ed = absurd (omega arith)
-four (x ∷ []) a b c d low high ea eb ec ed = absurd (omega arith)
-four (x ∷ y ∷ []) a b c d low high ea eb ec ed = absurd (omega arith)
-four (x ∷ y ∷ z ∷ []) a b c d low high ea eb ec ed = absurd (omega arith)
 four (x ∷ y ∷ z ∷ w ∷ []) a b c d low high ea eb ec ed = cc
-four (x ∷ y ∷ z ∷ w ∷ v ∷ vs) a b c d low high ea eb ec ed = absurd (omega arith)
+four _ a b c d low high ea eb ec ed = absurd (omega arith)
 
 -- a list of five elements is those at its five places
 pub five : {A : Type 0} (xs : List A) (a b c d e : A) → 5 ≤ length xs → length xs < 6 → a ≡ slice_index_or xs 0 a → b ≡ slice_index_or xs 1 b → c ≡ slice_index_or xs 2 c → d ≡ slice_index_or xs 3 d → e ≡ slice_index_or xs 4 e → xs ≡ a ∷ b ∷ c ∷ d ∷ e ∷ []

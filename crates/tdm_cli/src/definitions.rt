@@ -1,4 +1,4 @@
-//! The words that are commands, the reports, the codes and two rounds, computed.
+//! The reports, the codes and two rounds, computed.
 ghost use Rattle.std.specs.Prelude.{◌≡◌, ◌<◌, ◌^◌, [], ◌∷◌, codes};
 ghost use Rattle.tdm_problem.specs.Loads.{load_cost};
 ghost use Rattle.tdm_problem.specs.Roots.{IsRoot};
@@ -12,62 +12,32 @@ ghost use Rattle.tdm_cli.specs.declared.status.Status.TheVariants.{BoardRefused,
 ghost use Rattle.tdm_cli.specs.Reports.{answer_report, board_refused_report, cert_refused_report, route_report, size_report, solution_refused_report, unconnectable_report, usage_report, use_limit_report, verdict_report};
 ghost use Rattle.tdm_cli.specs.Rounds.{first_weights, next_of, round_length, round_value, solution_of_round};
 ghost use Rattle.tdm_cli.specs.TwoRounds.{first_round, second_round, four_on_two};
-ghost use Rattle.tdm_cli.specs.Words.{IsCommand, IsEval, IsRoute};
-
-/// Each verb takes its number of names, none of them empty, and an output may bear the input's name, but not that of
-/// the other output.
-fn verbs_take_names()
-    ensures route { IsCommand (codes "route" ∷ codes "b" ∷ codes "s" ∷ codes "c" ∷ []) }
-    ensures over_input { IsRoute (codes "route" ∷ codes "b" ∷ codes "b" ∷ codes "c" ∷ [])
-        (codes "b") (codes "b") (codes "c") 20 }
-    ensures eval { IsCommand (codes "eval" ∷ codes "b" ∷ codes "s" ∷ []) }
-    ensures check { IsCommand (codes "check" ∷ codes "b" ∷ codes "c" ∷ []) }
-    ensures no_words { ¬ IsCommand [] }
-    ensures too_few { ¬ IsCommand (codes "route" ∷ codes "b" ∷ codes "s" ∷ []) }
-    ensures same_outputs { ¬ IsCommand (codes "route" ∷ codes "b" ∷ codes "s" ∷ codes "s" ∷ []) }
-    ensures no_name { ¬ IsCommand (codes "eval" ∷ codes "b" ∷ [] ∷ []) }
-    ensures other_word { ¬ IsCommand (codes "Eval" ∷ codes "b" ∷ codes "s" ∷ []) }
-{}
 
 /// Reports are lines of words and numbers.
 fn reports_are_lines()
-    ensures route { route_report 10 10 ≡ codes "value 10\nbound 10\n" }
-    ensures size { size_report star ≡ codes "fpgas 4 wires 3 nets 1 groups 1\n" }
-    ensures words { usage_report ≡ codes "words refused\n" }
-    ensures read_fault { read_fault_report 1 ≡ codes "read fault input 1\n" }
-    ensures no_input { no_input_report 1 ≡ codes "no input 1\n" }
-    ensures board { board_refused_report (codes "MissingLine") 4
-        ≡ codes "board refused MissingLine line 4\n" }
-    ensures solution { solution_refused_report (codes "RepeatedWire") 3
-        ≡ codes "solution refused RepeatedWire line 3\n" }
-    ensures certificate { cert_refused_report (codes "BadKind") 1
-        ≡ codes "certificate refused BadKind line 1\n" }
-    ensures nets { unconnectable_report (0 ∷ 2 ∷ []) ≡ codes "unconnectable net 0\nunconnectable net 2\n" }
-    ensures uses { use_limit_report ≡ codes "too many uses\n" }
-    ensures legal { verdict_report (Legal 20) ≡ codes "value 20\n" }
-    ensures not_joined { verdict_report (NotJoined 0) ≡ codes "illegal net 0 not joined\n" }
-    ensures bad_ratio { verdict_report (BadRatio 0 0 3) ≡ codes "illegal net 0 wire 0 ratio 3\n" }
-    ensures overfull { verdict_report (Overfull 0) ≡ codes "illegal wire 0 overfull\n" }
-    ensures accepted { answer_report (Accepted 10) ≡ codes "bound 10\n" }
-    ensures steep { answer_report (Rejected (record { potential = 0; wire = 0 }))
-        ≡ codes "steep potential 0 wire 0\n" }
+    ensures common { usage_report ∷ read_fault_report 1 ∷ no_input_report 1 ∷ []
+        ≡ codes "words refused\n" ∷ codes "read fault input 1\n" ∷ codes "no input 1\n" ∷ [] }
+    ensures refused { board_refused_report (codes "MissingLine") 4 ∷ solution_refused_report (codes "RepeatedWire") 3
+        ∷ cert_refused_report (codes "BadKind") 1 ∷ []
+        ≡ codes "board refused MissingLine line 4\n" ∷ codes "solution refused RepeatedWire line 3\n"
+        ∷ codes "certificate refused BadKind line 1\n" ∷ [] }
+    ensures routed { route_report 10 10 ∷ unconnectable_report (0 ∷ 2 ∷ []) ∷ use_limit_report ∷ size_report star ∷ []
+        ≡ codes "value 10\nbound 10\n" ∷ codes "unconnectable net 0\nunconnectable net 2\n"
+        ∷ codes "too many uses\n" ∷ codes "fpgas 4 wires 3 nets 1 groups 1\n" ∷ [] }
+    ensures judged { verdict_report (Legal 20) ∷ verdict_report (NotJoined 0) ∷ verdict_report (BadRatio 0 0 3)
+        ∷ verdict_report (Overfull 0) ∷ []
+        ≡ codes "value 20\n" ∷ codes "illegal net 0 not joined\n" ∷ codes "illegal net 0 wire 0 ratio 3\n"
+        ∷ codes "illegal wire 0 overfull\n" ∷ [] }
+    ensures checked { answer_report (Accepted 10) ∷ answer_report (Rejected (record { potential = 0; wire = 0 })) ∷ []
+        ≡ codes "bound 10\n" ∷ codes "steep potential 0 wire 0\n" ∷ [] }
 {}
 
 /// Each status ends the process with a number of its own.
 fn statuses_have_codes()
-    ensures ok { code_of Ok ≡ 0 }
-    ensures board_refused { code_of BoardRefused ≡ 1 }
-    ensures usage { code_of Usage ≡ 2 }
-    ensures unconnectable { code_of Unconnectable ≡ 3 }
-    ensures read_fault { code_of ReadFault ≡ 4 }
-    ensures write_fault { code_of WriteFault ≡ 5 }
-    ensures out_of_memory { code_of OutOfMemory ≡ 6 }
-    ensures solution_refused { code_of SolutionRefused ≡ 7 }
-    ensures illegal { code_of Illegal ≡ 8 }
-    ensures cert_refused { code_of CertRefused ≡ 9 }
-    ensures cert_rejected { code_of CertRejected ≡ 10 }
-    ensures use_limit { code_of UseLimit ≡ 11 }
-    ensures no_input { code_of NoInput ≡ 14 }
+    ensures { code_of Ok ∷ code_of BoardRefused ∷ code_of Usage ∷ code_of Unconnectable ∷ code_of ReadFault
+        ∷ code_of WriteFault ∷ code_of OutOfMemory ∷ code_of SolutionRefused ∷ code_of Illegal ∷ code_of CertRefused
+        ∷ code_of CertRejected ∷ code_of UseLimit ∷ code_of NoInput ∷ []
+        ≡ 0 ∷ 1 ∷ 2 ∷ 3 ∷ 4 ∷ 5 ∷ 6 ∷ 7 ∷ 8 ∷ 9 ∷ 10 ∷ 11 ∷ 14 ∷ [] }
 {}
 
 /// In the first round three of four nets that weigh the same share a wire, and their groups' sums are twice that of the fourth.

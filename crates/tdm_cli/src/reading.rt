@@ -58,8 +58,6 @@ impl TextReader for BoardText {
 
     ghost limit = { λ _. 2 ^ 28 };
 
-    ghost known = { λ _ _. Unit {0} };
-
     ghost is_at = { λ it text. IsAtBoard it.reader text };
 
     ghost fed = { λ it. it.reader.fed };
@@ -132,8 +130,6 @@ impl TextReader for SolutionText<'_> {
     ghost kind = { λ it. solutions it.problem.now };
 
     ghost limit = { λ _. 2 ^ 30 };
-
-    ghost known = { λ _ _. Unit {0} };
 
     ghost is_at = { λ it text. IsAtSolution it.reader it.problem.now text };
 
@@ -216,8 +212,6 @@ impl TextReader for CertText<'_> {
     ghost kind = { λ it. certificates it.problem.now };
 
     ghost limit = { λ _. 2 ^ 30 };
-
-    ghost known = { λ _ _. Unit {0} };
 
     ghost is_at = { λ it text. IsAtCert it.reader it.problem.now text };
 

@@ -28,7 +28,7 @@ pub enum Status {
     CertRefused,
     /// A potential of the certificate changes along a wire by more than the wire's length.
     CertRejected,
-    /// The baseline solution uses more wires than a solution may.
+    /// The baseline solution has more uses than `route` may write.
     UseLimit,
     /// An input has no file of its name.
     NoInput,
@@ -66,8 +66,6 @@ impl RunStatus for Status {
       write_fault = status.WriteFault;
       out_of_memory = status.OutOfMemory;
     } };
-
-    fn apart() {}
 
     fn no_input() -> Status {
         Status::NoInput

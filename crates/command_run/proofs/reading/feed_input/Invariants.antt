@@ -14,7 +14,6 @@ invariant-loop-done g l = record {
   many : length text ≡ l.done;
   loads : Loads l.slot (g.D.Desk.seen l.initial.desk) (g.D.Desk.seen l.desk) l.done text;
   kind : g.R.TextReader.kind l.reader ≡ g.R.TextReader.kind l.initial.reader;
-  known : (value : g.row.R-Value.Denot) → g.R.TextReader.known l.reader value → g.R.TextReader.known l.initial.reader value;
   limit : g.R.TextReader.limit l.reader ≡ g.R.TextReader.limit l.initial.reader;
   uncounted : g.D.Desk.counts l.desk ≡ g.D.Desk.counts l.initial.desk;
   counted : CountsFaults g.D.Desk.counts g.D.Desk.steady l.initial.desk l.desk;
