@@ -26,7 +26,7 @@ DESK = TOP / "crates" / "tdm_desk" / "src" / "calls.rt"
 # these reach and no earlier step has; the last has all the rest.
 STEPS = [
     ("legality", ["IsLegal", "value_of"]),
-    ("bound", ["IsValid", "IsBound", "bound_of", "IsLowerBound"]),
+    ("bound", ["IsValid", "IsBound", "IsLowerBound"]),
     ("texts", ["board_of", "solution_of", "cert_of", "board_text", "solution_text", "cert_text"]),
     (
         "promises",

@@ -87,16 +87,20 @@ module _ (board : Board) (arcs : Arcs) where
     least-of zero = (_, none)
     least-of (suc e) = elim (slice_get_cases board.wires e).1 [
       | inl (wire, inside, is, at) ↦
-          let before = least-of e in
-          (_, more e wire.a wire.b before.0 (record { wire = wire; is = is; ends = inl (refl, refl) }) (record { wire = wire; is = is; ends = inr (refl, refl) })
-              (λ a x links. ends wire a x links.ends (same_Some links.wire wire (sym links.is ∙ is))) before.1)
+          let before = least-of e in (
+            _,
+            more e wire.a wire.b before.0 (record { wire = wire; is = is; ends = inl (refl, refl) }) (record { wire = wire; is = is; ends = inr (refl, refl) })
+                (λ a x links. ends wire a x links.ends (same_Some links.wire wire (sym links.is ∙ is))) before.1,
+          )
       | inr (past, nothing) ↦
-          let before = least-of e in
-          (before.0, record {
-            same = before.1.same;
-            arc = λ d a x b below links. before.1.arc d a x b (omega (arith, below, past, AnyWire-from_links board d a x links)) links;
-            way = before.1.way;
-          })
+          let before = least-of e in (
+            before.0,
+            record {
+              same = before.1.same;
+              arc = λ d a x b below links. before.1.arc d a x b (omega (arith, below, past, AnyWire-from_links board d a x links)) links;
+              way = before.1.way;
+            },
+          )
     ]
       where
         ends : (wire : Wire) (a x : ℕ) {other : Wire} → ((other.a ≡ a) × (other.b ≡ x)) ⊎ ((other.a ≡ x) × (other.b ≡ a)) → other ≡ wire → ((a ≡ wire.a) × (x ≡ wire.b)) ⊎ ((a ≡ wire.b) × (x ≡ wire.a))

@@ -71,11 +71,13 @@ module _ (xs : List ℕ) where
 -- numbers can be put in rising order
 pub some_rising : (xs : List ℕ) → (rising : List ℕ) × AreRising xs rising
 some_rising xs =
-    let all = from xs 0 (sum_by (λ x. x) xs + 1) in
-    (all.0, record {
-      rises = all.1.rises;
-      same = λ y. (
-        λ in_ys. (all.1.known y in_ys).1,
-        λ in_xs. all.1.whole y (omega arith) (omega (arith, get_or-le-sum_by (λ (x : ℕ). x) xs in_xs.0 y in_xs.1, in_xs.2)) in_xs,
-      );
-    })
+    let all = from xs 0 (sum_by (λ x. x) xs + 1) in (
+      all.0,
+      record {
+        rises = all.1.rises;
+        same = λ y. (
+          λ in_ys. (all.1.known y in_ys).1,
+          λ in_xs. all.1.whole y (omega arith) (omega (arith, get_or-le-sum_by (λ (x : ℕ). x) xs in_xs.0 y in_xs.1, in_xs.2)) in_xs,
+        );
+      },
+    )

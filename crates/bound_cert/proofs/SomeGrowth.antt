@@ -53,18 +53,25 @@ module _ (board : Board) where
   -- what is joined with the root reaches one of the live FPGAs, and all have their heights
   reached : (rests : Arcs) (x root : ℕ) (more : List ℕ) → IsJoined x root →
       (reach : ℕ) × IsReach board rests x (root ∷ more) reach × ((heights : ℕ → ℕ) × ((f : ℕ) → IsHeight board rests x reach f (heights f)))
-  reached rests x root more walk = (reach, record {
-    nearest = first.0;
-    listed = first.1;
-    way = (near first.0).2 below;
-    least = λ f es total listed way. omega (arith, first.2 f listed, (near f).1 es total way);
-  }, (λ f. reach - (near f).0, λ f. record {
-    enough = λ es total way. omega (arith, (near f).1 es total way);
-    exact = ⊎_elim
-        (λ (less : (near f).0 < reach). let way = (near f).2 (omega (arith, less, below)) in inr (way.0, ((near f).0, way.1, omega (arith, less))))
-        (λ (no : reach ≤ (near f).0). inl (omega (arith, no)))
-        (cases_lt (near f).0 reach);
-  }))
+  reached rests x root more walk = (
+    reach,
+    record {
+      nearest = first.0;
+      listed = first.1;
+      way = (near first.0).2 below;
+      least = λ f es total listed way. omega (arith, first.2 f listed, (near f).1 es total way);
+    },
+    (
+      λ f. reach - (near f).0,
+      λ f. record {
+        enough = λ es total way. omega (arith, (near f).1 es total way);
+        exact = ⊎_elim
+            (λ (less : (near f).0 < reach). let way = (near f).2 (omega (arith, less, below)) in inr (way.0, ((near f).0, way.1, omega (arith, less))))
+            (λ (no : reach ≤ (near f).0). inl (omega (arith, no)))
+            (cases_lt (near f).0 reach);
+      },
+    ),
+  )
     where
       far : (total : ℕ) × IsArcWalk board rests x walk.0 root total
       far = long rests x walk.0 root walk.1

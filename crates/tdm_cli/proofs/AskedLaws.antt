@@ -47,7 +47,7 @@ routing-for board rounds outcome (is_unconnectable nets are some is) =
     let apart = (are.exact net.0).0 net.1 in
     subst (λ (o : Outcome Status). RoutingFor board o.status) (sym is) (net.0, apart.0, apart.1)
 routing-for board rounds outcome (is_over_limit over is) = subst (λ (o : Outcome Status). RoutingFor board o.status) (sym is) over
-routing-for board rounds outcome (is_routed routing cert improved is) = subst (λ (o : Outcome Status). RoutingFor board o.status) (sym is) (improved.joined, improved.within)
+routing-for board rounds outcome (is_routed routing cert bound improved is) = subst (λ (o : Outcome Status). RoutingFor board o.status) (sym is) (improved.joined, improved.within)
 
 judging-for : (board : Board) (routing : Routing) (outcome : Outcome Status) → Judges board routing outcome → JudgingFor board routing outcome.status
 judging-for board routing outcome judges = subst (λ (o : Outcome Status). JudgingFor board routing o.status) (sym judges.is) (by judges.verdict judges.right judges.legal.1)
@@ -67,7 +67,7 @@ checking-for board cert outcome checks = subst (λ (o : Outcome Status). Checkin
 
 showing-for : (fpgas nets groups : ℕ) (outcome : Outcome Status) → Demonstrates fpgas nets groups outcome → ShowingFor (generated fpgas nets groups) outcome.status
 showing-for fpgas nets groups outcome (is_too_large over is) = subst (λ (o : Outcome Status). ShowingFor (generated fpgas nets groups) o.status) (sym is) over
-showing-for fpgas nets groups outcome (is_shown routing cert improved is) = subst (λ (o : Outcome Status). ShowingFor (generated fpgas nets groups) o.status) (sym is) improved.within
+showing-for fpgas nets groups outcome (is_shown routing cert bound improved is) = subst (λ (o : Outcome Status). ShowingFor (generated fpgas nets groups) o.status) (sym is) improved.within
 
 pub status-for : (request : Request) (files : Files) (outcome : Outcome Status) → CallsFor request (contents_in files (inputs_of request)) outcome → StatusFor request files outcome.status
 status-for (route board solution cert rounds) files outcome calls =

@@ -16,7 +16,7 @@ use Rattle.ripup_reroute.specs.Rerouting.{AreMinimalTrees}
 use Rattle.bound_cert.specs.Certificate.{IsCert, IsCertFor}
 use Rattle.bound_cert.specs.Limits.{most_potential_values}
 use Rattle.bound_cert.specs.Valid.{IsValid}
-use Rattle.bound_cert.specs.Bound.{bound_of, IsBound}
+use Rattle.bound_cert.specs.Bound.{IsBound}
 use Rattle.cert_checker.specs.Answer.{IsLowerBound}
 use Rattle.worst_refine.specs.Lowered.{IsLowered}
 use Rattle.worst_refine.specs.Traded.{HasSmallRatios}
@@ -62,13 +62,12 @@ IsBest-on_trees board trees routing old worth value certified best are rising fe
         cert_for = was.cert_for;
         cert_few = was.cert_few;
         valid = was.valid;
-        bound = was.bound;
+        is_bound = was.is_bound;
         lower = was.lower;
         hop_floor = was.hop_floor;
         share_floor = was.share_floor;
       };
       value_is = worth_is;
-      bound_is = best.bound_is;
     }
 
 -- ratios of at most the largest even number have 32 bits
@@ -111,8 +110,8 @@ IsBest-lowered board new old worth value certified best legal lowered less worth
     (trees_lowered old new lowered) legal (short-lowered old new lowered was.sayable.short) worth_is (omega (arith, less, worth_is, best.value_is))
 
 -- a certificate of a greater bound is the best
-pub IsBest-certified : (board : Board) (routing : Routing) (value : ℕ) (old new : Certified) → IsBest board routing value old → new.bound ≡ bound_of board new.cert → old.bound < new.bound → IsCert new.cert → IsCertFor board new.cert → sum_by length new.cert.potentials ≤ most_potential_values → IsValid board new.cert → IsBound board new.cert (bound_of board new.cert) → IsLowerBound board (bound_of board new.cert) → IsBest board routing value new
-IsBest-certified board routing value old new best bound_is more within for_board few valid is_bound lower =
+pub IsBest-certified : (board : Board) (routing : Routing) (value : ℕ) (old new : Certified) → IsBest board routing value old → old.bound < new.bound → IsCert new.cert → IsCertFor board new.cert → sum_by length new.cert.potentials ≤ most_potential_values → IsValid board new.cert → IsBound board new.cert new.bound → IsLowerBound board new.bound → IsBest board routing value new
+IsBest-certified board routing value old new best more within for_board few valid is_bound lower =
     let was = best.may_be_written in
     record {
       may_be_written = record {
@@ -126,13 +125,12 @@ IsBest-certified board routing value old new best bound_is more within for_board
         cert_for = for_board;
         cert_few = few;
         valid = valid;
-        bound = is_bound;
+        is_bound = is_bound;
         lower = lower;
-        hop_floor = λ floor is. omega (arith, was.hop_floor floor is, best.bound_is, bound_is, more);
-        share_floor = λ floor is. omega (arith, was.share_floor floor is, best.bound_is, bound_is, more);
+        hop_floor = λ floor is. omega (arith, was.hop_floor floor is, more);
+        share_floor = λ floor is. omega (arith, was.share_floor floor is, more);
       };
       value_is = best.value_is;
-      bound_is = bound_is;
     }
 
 -- a number over one lane

@@ -11,8 +11,9 @@ use Rattle.even_legalise.specs.Uniform.{uniform_routing}
 use Rattle.shortest_forest.specs.Baseline.{AreBaseTrees}
 use Rattle.ripup_reroute.specs.Rerouting.{AreMinimalTrees}
 use Rattle.bound_cert.specs.Certificate.{Cert}
-use Rattle.bound_cert.specs.Bound.{bound_of}
+use Rattle.bound_cert.specs.Bound.{bound_of, IsBound}
 use Rattle.bound_cert.specs.Floors.{IsHopFloor, IsShareFloor}
+use Rattle.cert_checker.specs.Answer.{IsLowerBound}
 use Rattle.tdm_cli.specs.declared.certify.Certified.{Certified}
 use Rattle.tdm_cli.specs.Baseline.{most_uses, IsBaseline}
 use Rattle.tdm_cli.specs.Best.{IsBest}
@@ -70,17 +71,16 @@ IsBest-baseline board routing value certified baseline best value_is bound_is =
         cert_for = proof.for_board;
         cert_few = proof.few;
         valid = proof.valid;
-        bound = proof.bound;
-        lower = proof.lower;
-        hop_floor = hop-floor board certified.cert best;
-        share_floor = share-floor board certified.cert best;
+        is_bound = subst (IsBound board certified.cert) (sym bound_is) proof.bound;
+        lower = subst (IsLowerBound board) (sym bound_is) proof.lower;
+        hop_floor = λ floor is. omega (arith, hop-floor board certified.cert best floor is, bound_is);
+        share_floor = λ floor is. omega (arith, share-floor board certified.cert best floor is, bound_is);
       };
       value_is = value_is;
-      bound_is = bound_is;
     }
 
 -- what was improved by so many rounds from the baseline's trees
-pub IsImproved-rounds : (board : Board) (trees : List (List ℕ)) (count : ℕ) (routing : Routing) (value : ℕ) (certified : Certified) → AllConnectable board → AreBaseTrees board trees → sum_by length trees ≤ most_uses → IsBest board routing value certified → IsTight board routing → (0 < value → MeetsRounds board trees count value certified.bound) → IsImproved board count routing certified.cert
+pub IsImproved-rounds : (board : Board) (trees : List (List ℕ)) (count : ℕ) (routing : Routing) (value : ℕ) (certified : Certified) → AllConnectable board → AreBaseTrees board trees → sum_by length trees ≤ most_uses → IsBest board routing value certified → IsTight board routing → (0 < value → MeetsRounds board trees count value certified.bound) → IsImproved board count routing certified.cert certified.bound
 IsImproved-rounds board trees count routing value certified joined base few best tight met = record {
   joined = joined;
   within = λ others other. subst (λ ts. sum_by length ts ≤ most_uses) (base-trees-unique board trees others base other) few;
@@ -89,7 +89,6 @@ IsImproved-rounds board trees count routing value certified joined base few best
   rounds = λ positive. (
     trees,
     base,
-    subst (λ v. MeetsRounds board trees count v (bound_of board certified.cert)) best.value_is
-        (subst (λ b. MeetsRounds board trees count value b) best.bound_is (met (omega (arith, positive, best.value_is)))),
+    subst (λ v. MeetsRounds board trees count v certified.bound) best.value_is (met (omega (arith, positive, best.value_is))),
   );
 }

@@ -24,7 +24,6 @@ use Rattle.solution_eval.specs.Verdict.{IsVerdict}
 use Rattle.bound_cert.specs.Certificate.{Cert}
 use Rattle.bound_cert.specs.CertReading.{cert_of}
 use Rattle.bound_cert.specs.CertText.{cert_text}
-use Rattle.bound_cert.specs.Bound.{bound_of}
 use Rattle.bound_cert.proofs.Accepted.{accepted-cert}
 use Rattle.bound_cert.proofs.DualBound.{bound-le_value}
 use Rattle.bound_cert.proofs.CertReadsBack.{text_reads_back as cert_text_reads_back}
@@ -74,10 +73,10 @@ module _ (files : Files) (before after : Seen) (told : files_of before ≡ Some 
 
   -- a solution and a certificate that were found for a board are written
   found-written : (board : Board) (solution cert : Name) (rounds : ℕ) (opened : ℕ) (report : (value bound : ℕ) → Bytes) (outcome : Outcome Status) → Leaves before after (solution ∷ cert ∷ []) outcome.texts outcome.report
-      → (routing : Routing) (proof : Cert) → IsImproved board rounds routing proof
-      → outcome ≡ comes_to opened status.Ok (report (value_of board routing) (bound_of board proof)) (solution_text routing ∷ cert_text proof ∷ [])
+      → (routing : Routing) (proof : Cert) (bound : ℕ) → IsImproved board rounds routing proof bound
+      → outcome ≡ comes_to opened status.Ok (report (value_of board routing) bound) (solution_text routing ∷ cert_text proof ∷ [])
       → IsWritten board files solution cert rounds report before after
-  found-written board solution cert rounds opened report outcome left routing proof improved is =
+  found-written board solution cert rounds opened report outcome left routing proof bound improved is =
       let may = improved.may_be_written in
       record {
         routing = routing;
@@ -88,7 +87,8 @@ module _ (files : Files) (before after : Seen) (told : files_of before ≡ Some 
         no_worse = may.no_worse;
         proof = proof;
         valid = may.valid;
-        bound = may.bound;
+        bound = bound;
+        is_bound = may.is_bound;
         lower = may.lower;
         hop_floor = may.hop_floor;
         share_floor = may.share_floor;
@@ -105,11 +105,11 @@ module _ (files : Files) (before after : Seen) (told : files_of before ≡ Some 
       → (bytes : Bytes) (board : Board) → get files name ≡ Some bytes → board_of bytes ≡ Ok board → Routes board rounds outcome → IsWorth (route name solution cert rounds) files before after outcome.status
   routed name solution cert rounds outcome left bytes board found says (is_unconnectable nets are some is) = subst (λ (o : Outcome Status). IsWorth (route name solution cert rounds) files before after o.status) (sym is) tt
   routed name solution cert rounds outcome left bytes board found says (is_over_limit over is) = subst (λ (o : Outcome Status). IsWorth (route name solution cert rounds) files before after o.status) (sym is) tt
-  routed name solution cert rounds outcome left bytes board found says (is_routed routing proof improved is) =
+  routed name solution cert rounds outcome left bytes board found says (is_routed routing proof bound improved is) =
       subst (λ (o : Outcome Status). IsWorth (route name solution cert rounds) files before after o.status) (sym is) (record {
         board = board;
         described = (bytes, found, says);
-        routed = found-written board solution cert rounds 1 route_report outcome left routing proof improved is;
+        routed = found-written board solution cert rounds 1 route_report outcome left routing proof bound improved is;
       })
 
   written : (fpgas nets groups : ℕ) (name : Name) (outcome : Outcome Status) → Leaves before after (name ∷ []) outcome.texts outcome.report → Generates fpgas nets groups outcome → IsWorth (gen fpgas nets groups name) files before after outcome.status
@@ -122,9 +122,9 @@ module _ (files : Files) (before after : Seen) (told : files_of before ≡ Some 
 
   shown : (fpgas nets groups : ℕ) (solution cert : Name) (outcome : Outcome Status) → Leaves before after (solution ∷ cert ∷ []) outcome.texts outcome.report → Demonstrates fpgas nets groups outcome → IsWorth (demo fpgas nets groups solution cert) files before after outcome.status
   shown fpgas nets groups solution cert outcome left (is_too_large over is) = subst (λ (o : Outcome Status). IsWorth (demo fpgas nets groups solution cert) files before after o.status) (sym is) tt
-  shown fpgas nets groups solution cert outcome left (is_shown routing proof improved is) =
+  shown fpgas nets groups solution cert outcome left (is_shown routing proof bound improved is) =
       subst (λ (o : Outcome Status). IsWorth (demo fpgas nets groups solution cert) files before after o.status) (sym is)
-      (found-written (generated fpgas nets groups) solution cert 20 0 (demo_report (generated fpgas nets groups)) outcome left routing proof improved is)
+      (found-written (generated fpgas nets groups) solution cert 20 0 (demo_report (generated fpgas nets groups)) outcome left routing proof bound improved is)
 
   judged : (name solution : Name) (outcome : Outcome Status) → Leaves before after [] outcome.texts outcome.report → (bytes : Bytes) (board : Board) → get files name ≡ Some bytes → board_of bytes ≡ Ok board
       → (text : Bytes) (routing : Routing) → get files solution ≡ Some text → solution_of board text ≡ Ok routing → Judges board routing outcome → IsWorth (eval name solution) files before after outcome.status

@@ -10,7 +10,7 @@ use Rattle.even_legalise.specs.Uniform.{uniform_routing}
 use Rattle.solution_text.specs.Sayable.{IsSayable}
 use Rattle.shortest_forest.specs.Baseline.{AreBaseTrees}
 
--- the most uses of wires that a solution may have, counted net by net
+-- the most uses of wires that `route` may write, counted net by net
 abbrev pub most_uses : ℕ
 most_uses = 2 ^ 25
 
@@ -31,11 +31,11 @@ pub record AreUnconnectable (board : Board) (nets : List ℕ) : Type 0 where
   pub exact : (n : ℕ) → Contains nets n ↔ ((n < length board.nets)
       × (IsConnectable board (terminals_of board n) → ⊥))
 
--- the baseline has no more uses than a solution may have
+-- the baseline has no more uses than `route` may write
 abbrev pub IsWithinUseLimit : Board → Type 0
 IsWithinUseLimit board = (trees : List (List ℕ)) → AreBaseTrees board trees → sum_by length trees ≤ most_uses
 
--- all nets can be joined, but the baseline trees have more wires together than a solution may use
+-- all nets can be joined, but the baseline trees have more wires together than `route` may write uses
 pub record IsOverUseLimit (board : Board) : Type 0 where
   pub joined : AllConnectable board
   pub trees : List (List ℕ)

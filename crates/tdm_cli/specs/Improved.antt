@@ -6,7 +6,6 @@ use Rattle.tdm_problem.specs.Tight.{IsTight}
 use Rattle.tdm_problem.specs.Value.{value_of}
 use Rattle.shortest_forest.specs.Baseline.{AreBaseTrees}
 use Rattle.bound_cert.specs.Certificate.{Cert}
-use Rattle.bound_cert.specs.Bound.{bound_of}
 use Rattle.tdm_problem.specs.Legal.{AllConnectable}
 use Rattle.tdm_cli.specs.Baseline.{IsWithinUseLimit}
 use Rattle.tdm_cli.specs.Routing.{IsRouting}
@@ -17,12 +16,11 @@ abbrev pub MeetsBaselineRounds : Board → (count value bound : ℕ) → Type 0
 MeetsBaselineRounds board count value bound =
     (trees : List (List ℕ)) × AreBaseTrees board trees × MeetsRounds board trees count value bound
 
--- of a board with a baseline a tight solution and a certificate that may be written; unless the value is 0, so many rounds
--- that both meet
-pub record IsImproved (board : Board) (count : ℕ) (routing : Routing) (cert : Cert) : Type 0 where
+-- of a board with a baseline a tight solution that may be written, and a certificate that may be, with its bound; unless the
+-- value is 0, so many rounds that value and bound both meet
+pub record IsImproved (board : Board) (count : ℕ) (routing : Routing) (cert : Cert) (bound : ℕ) : Type 0 where
   pub joined : AllConnectable board
   pub within : IsWithinUseLimit board
-  pub may_be_written : IsRouting board routing cert
+  pub may_be_written : IsRouting board routing cert bound
   pub tight : IsTight board routing
-  pub rounds : 0 < value_of board routing
-      → MeetsBaselineRounds board count (value_of board routing) (bound_of board cert)
+  pub rounds : 0 < value_of board routing → MeetsBaselineRounds board count (value_of board routing) bound

@@ -8,6 +8,7 @@ pub mod Obstacle
 pub mod Routing
 pub mod Improved
 pub mod Rounds
+pub mod Candidates
 pub mod Best
 pub mod Running
 pub mod Kinds

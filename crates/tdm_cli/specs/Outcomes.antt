@@ -14,7 +14,6 @@ use Rattle.solution_eval.specs.declared.judgement.Verdict.TheVariants as verdict
 use Rattle.solution_eval.specs.Verdict.{IsVerdict, SaysLegal}
 use Rattle.bound_cert.specs.Certificate.{Cert}
 use Rattle.bound_cert.specs.CertText.{cert_text}
-use Rattle.bound_cert.specs.Bound.{bound_of}
 use Rattle.cert_checker.specs.declared.answer.CheckAnswer.{CheckAnswer}
 use Rattle.cert_checker.specs.declared.answer.CheckAnswer.TheVariants as answer
 use Rattle.cert_checker.specs.Answer.{IsAnswer}
@@ -43,8 +42,8 @@ pub data Routes (board : Board) (rounds : ℕ) (outcome : Outcome Status) : Type
       → outcome ≡ comes_to 1 status.Unconnectable (unconnectable_report nets) [] → Routes board rounds outcome
   is_over_limit : IsOverUseLimit board
       → outcome ≡ comes_to 1 status.UseLimit use_limit_report [] → Routes board rounds outcome
-  is_routed : (routing : Routing) (cert : Cert) → IsImproved board rounds routing cert
-      → outcome ≡ comes_to 1 status.Ok (route_report (value_of board routing) (bound_of board cert)) (solution_text routing ∷ cert_text cert ∷ [])
+  is_routed : (routing : Routing) (cert : Cert) (bound : ℕ) → IsImproved board rounds routing cert bound
+      → outcome ≡ comes_to 1 status.Ok (route_report (value_of board routing) bound) (solution_text routing ∷ cert_text cert ∷ [])
       → Routes board rounds outcome
 
 -- the status of a solution that is judged so
@@ -83,9 +82,9 @@ pub record Generates (fpgas nets groups : ℕ) (outcome : Outcome Status) : Type
 pub data Demonstrates (fpgas nets groups : ℕ) (outcome : Outcome Status) : Type 0 where
   is_too_large : IsOverUseLimit (generated fpgas nets groups)
       → outcome ≡ comes_to 0 status.UseLimit use_limit_report [] → Demonstrates fpgas nets groups outcome
-  is_shown : (routing : Routing) (cert : Cert) → IsImproved (generated fpgas nets groups) 20 routing cert
+  is_shown : (routing : Routing) (cert : Cert) (bound : ℕ) → IsImproved (generated fpgas nets groups) 20 routing cert bound
       → outcome ≡ comes_to 0 status.Ok
-      (demo_report (generated fpgas nets groups) (value_of (generated fpgas nets groups) routing) (bound_of (generated fpgas nets groups) cert))
+      (demo_report (generated fpgas nets groups) (value_of (generated fpgas nets groups) routing) bound)
       (solution_text routing ∷ cert_text cert ∷ [])
       → Demonstrates fpgas nets groups outcome
 

@@ -21,7 +21,7 @@ use Rattle.bound_cert.specs.Certificate.{Cert}
 use Rattle.bound_cert.specs.CertText.{cert_text}
 use Rattle.bound_cert.specs.CertReading.{cert_of}
 use Rattle.bound_cert.specs.Valid.{IsValid}
-use Rattle.bound_cert.specs.Bound.{bound_of, IsBound}
+use Rattle.bound_cert.specs.Bound.{IsBound}
 use Rattle.bound_cert.specs.Floors.{IsHopFloor, IsShareFloor}
 use Rattle.cert_checker.specs.declared.steep.Steep.{Steep}
 use Rattle.cert_checker.specs.Steep.{IsFirstSteep}
@@ -60,18 +60,18 @@ pub record IsWritten (board : Board) (files : Files) (solution cert : Name) (cou
   pub no_worse : (value : ℕ) → IsBaselineValue board value → value_of board routing ≤ value
   pub proof : Cert
   pub valid : IsValid board proof
-  pub bound : IsBound board proof (bound_of board proof)
-  pub lower : IsLowerBound board (bound_of board proof)
-  pub hop_floor : (floor : ℕ) → IsHopFloor board floor → floor ≤ bound_of board proof
-  pub share_floor : (floor : ℕ) → IsShareFloor board floor → floor ≤ bound_of board proof
-  pub rounds : 0 < value_of board routing
-      → MeetsBaselineRounds board count (value_of board routing) (bound_of board proof)
+  pub bound : ℕ
+  pub is_bound : IsBound board proof bound
+  pub lower : IsLowerBound board bound
+  pub hop_floor : (floor : ℕ) → IsHopFloor board floor → floor ≤ bound
+  pub share_floor : (floor : ℕ) → IsShareFloor board floor → floor ≤ bound
+  pub rounds : 0 < value_of board routing → MeetsBaselineRounds board count (value_of board routing) bound
   pub written : files_of after
       ≡ Some (with_file cert (cert_text proof) (with_file solution (solution_text routing) files))
   pub reads_back : solution_of board (solution_text routing) ≡ Ok routing
   pub cert_reads_back : cert_of board (cert_text proof) ≡ Ok proof
   pub told : said_of after
-      ≡ option_map (λ s. s ++ report (value_of board routing) (bound_of board proof)) (said_of before)
+      ≡ option_map (λ s. s ++ report (value_of board routing) bound) (said_of before)
 
 -- a solution of the board in one file, found by so many rounds, and a certificate are written
 pub record IsRouted (files : Files) (name solution cert : Name) (count : ℕ) (before after : Seen) : Type 0 where

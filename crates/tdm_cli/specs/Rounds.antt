@@ -1,5 +1,5 @@
 -- Rounds: the groups are weighed, the nets rerouted for these weights, and the wires shared by the roots of the weights.
-use Rattle.std.specs.Prelude.{◌≡◌, ℕ, suc, ◌/◌, ◌^◌, ◌<◌, ◌≤◌, List, [], ◌∷◌, length, map, slice_index, sum_by, replicate, All}
+use Rattle.std.specs.Prelude.{◌≡◌, ℕ, suc, ◌/◌, ◌^◌, ◌<◌, ◌≤◌, ◌⊎◌, List, [], ◌∷◌, length, map, slice_index, sum_by, replicate, All}
 use Rattle.std.specs.List.{range_with_len}
 use Rattle.tdm_problem.specs.Board.{Board}
 use Rattle.tdm_problem.specs.Legal.{lanes_of}
@@ -10,6 +10,9 @@ use Rattle.tdm_problem.specs.Value.{group_sum, value_of}
 use Rattle.tdm_problem.specs.Weights.{net_weight}
 use Rattle.group_multipliers.specs.Renewal.{renewed}
 use Rattle.even_legalise.specs.Shared.{shared_routing}
+use Rattle.bound_cert.specs.declared.certificate.CertKind.TheVariants.{Share}
+use Rattle.bound_cert.specs.Bound.{IsBound}
+use Rattle.bound_cert.specs.Makers.{growing_cert}
 use Rattle.bound_cert.specs.Weighted.{IsShareBound}
 use Rattle.ripup_reroute.specs.Turns.{ArePasses}
 use Rattle.tdm_cli.specs.Baseline.{most_uses}
@@ -31,7 +34,7 @@ pub record Reroutes (board : Board) (before : List (List ℕ)) (round : Round) :
   pub roots : AreRoots board round.weights round.numbers
   pub passes : ArePasses board round.numbers (range_with_len 0 (length board.nets)) 4 before round.trees
 
--- the trees of the round have no more wires together than a solution may use
+-- the trees of the round have no more wires together than `route` may write uses
 abbrev pub FitsUses : Round → Type 0
 FitsUses round = sum_by length round.trees ≤ most_uses
 
@@ -47,9 +50,18 @@ round_value board round = value_of board (solution_of_round board round)
 abbrev pub round_length : Board → Round → (e : ℕ) → ℕ
 round_length board round e = load_of round.trees round.numbers e / lanes_of board e
 
+-- the lengths of all wires after the round
+abbrev pub round_lengths : Board → Round → List ℕ
+round_lengths board round = map (round_length board round) (range_with_len 0 (length board.wires))
+
 -- the number is the bound of the round
 abbrev pub IsRoundBound : Board → Round → (bound : ℕ) → Type 0
 IsRoundBound board round bound = IsShareBound board round.weights (round_length board round) bound
+
+-- the number is the bound by growth of the round, with the same weights and lengths
+abbrev pub IsRoundGrowthBound : Board → Round → (bound : ℕ) → Type 0
+IsRoundGrowthBound board round bound =
+    IsBound board (growing_cert board Share round.weights (round_lengths board round)) bound
 
 -- the weights of the round after this one
 abbrev pub next_of : Board → Round → List ℕ
@@ -77,12 +89,15 @@ pub record IsMet (board : Board) (value bound : ℕ) (round : Round) : Type 0 wh
   pub no_worse : FitsUses round → value ≤ round_value board round
   pub no_weaker : FitsUses round → (other : ℕ) → IsRoundBound board round other → other ≤ bound
 
--- there is one list of so many rounds from these weights and trees that the value and the bound both meet
-pub record MeetsFrom (board : Board) (count : ℕ) (weights : List ℕ) (before : List (List ℕ)) (value bound : ℕ) : Type 0 where
-  pub rounds : List Round
-  pub list : AreRounds board count weights before rounds
-  pub met : All (IsMet board value bound) rounds
+-- of the rounds this is the last that fits
+abbrev pub IsLastFit : List Round → (last : Round) → Type 0
+IsLastFit [] last = ⊥
+IsLastFit (round ∷ after) last = ((last ≡ round) × FitsUses round × All (λ r. ¬ FitsUses r) after) ⊎ IsLastFit after last
 
--- there is one round list of so many rounds that the value and the bound both meet
-abbrev pub MeetsRounds : Board → (baseline : List (List ℕ)) → (count value bound : ℕ) → Type 0
-MeetsRounds board baseline count value bound = MeetsFrom board count (first_weights board) baseline value bound
+-- there is one list of so many rounds that the value and the bound both meet, and the bound is at least the bound by growth
+-- of the last of them that fits
+pub record MeetsRounds (board : Board) (baseline : List (List ℕ)) (count value bound : ℕ) : Type 0 where
+  pub rounds : List Round
+  pub list : IsRoundList board baseline count rounds
+  pub met : All (IsMet board value bound) rounds
+  pub grown : (last : Round) → IsLastFit rounds last → (other : ℕ) → IsRoundGrowthBound board last other → other ≤ bound

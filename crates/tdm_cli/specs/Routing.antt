@@ -11,7 +11,7 @@ use Rattle.shortest_forest.specs.Baseline.{AreBaseTrees}
 use Rattle.bound_cert.specs.Limits.{most_potential_values}
 use Rattle.bound_cert.specs.Certificate.{Cert, IsCert, IsCertFor}
 use Rattle.bound_cert.specs.Valid.{IsValid}
-use Rattle.bound_cert.specs.Bound.{bound_of, IsBound}
+use Rattle.bound_cert.specs.Bound.{IsBound}
 use Rattle.bound_cert.specs.Floors.{IsHopFloor, IsShareFloor}
 use Rattle.cert_checker.specs.Answer.{IsLowerBound}
 use Rattle.tdm_cli.specs.Baseline.{most_uses}
@@ -21,8 +21,8 @@ abbrev pub IsBaselineValue : Board → ℕ → Type 0
 IsBaselineValue board value = (trees : List (List ℕ)) × AreBaseTrees board trees
     × (value ≡ value_of board (uniform_routing board trees))
 
--- a solution and a certificate that may be written
-pub record IsRouting (board : Board) (routing : Routing) (cert : Cert) : Type 0 where
+-- a solution that may be written, and a certificate that may be, with its bound
+pub record IsRouting (board : Board) (routing : Routing) (cert : Cert) (bound : ℕ) : Type 0 where
   pub for_board : IsFor board routing
   pub legal : IsLegal board routing
   pub minimal : (n : ℕ) → n < length board.nets → IsMinimalTree board (wires_of (uses_of routing n)) (terminals_of board n)
@@ -33,7 +33,7 @@ pub record IsRouting (board : Board) (routing : Routing) (cert : Cert) : Type 0 
   pub cert_for : IsCertFor board cert
   pub cert_few : sum_by length cert.potentials ≤ most_potential_values
   pub valid : IsValid board cert
-  pub bound : IsBound board cert (bound_of board cert)
-  pub lower : IsLowerBound board (bound_of board cert)
-  pub hop_floor : (floor : ℕ) → IsHopFloor board floor → floor ≤ bound_of board cert
-  pub share_floor : (floor : ℕ) → IsShareFloor board floor → floor ≤ bound_of board cert
+  pub is_bound : IsBound board cert bound
+  pub lower : IsLowerBound board bound
+  pub hop_floor : (floor : ℕ) → IsHopFloor board floor → floor ≤ bound
+  pub share_floor : (floor : ℕ) → IsShareFloor board floor → floor ≤ bound

@@ -19,7 +19,7 @@ use shortest_forest::{Forest, base_tree, hops};
 use std::alloc::{AllocError, Global};
 use tdm_problem::{Problem, Solution, Trees};
 
-/// The most uses of wires that a solution may have, counted net by net.
+/// The most uses of wires that `route` may write, counted net by net.
 pub const MAX_USES: u64 = 33_554_432;
 
 /// Why a board has no solution that may be written.

@@ -5,20 +5,25 @@ ghost use Rattle.tdm_problem.specs.Tight.{IsTight};
 ghost use Rattle.tdm_problem.specs.Trees.{HasRisingRows};
 ghost use Rattle.tdm_problem.specs.Value.{group_sum, value_of};
 ghost use Rattle.board_graph.specs.Graph.{graph_of};
+ghost use Rattle.bound_cert.specs.Bound.{IsBound};
+ghost use Rattle.bound_cert.specs.Certificate.{IsCert, IsCertFor};
+ghost use Rattle.bound_cert.specs.Limits.{most_potential_values};
+ghost use Rattle.bound_cert.specs.Valid.{IsValid};
+ghost use Rattle.bound_cert.specs.Weighted.{IsShareBound, ListsLengths};
 ghost use Rattle.even_legalise.specs.Shared.{shared_routing};
 ghost use Rattle.net_groups.specs.Incidence.{IsIncidenceOf};
 ghost use Rattle.ripup_reroute.specs.Rerouting.{AreMinimalTrees};
 ghost use Rattle.tdm_cli.specs.Baseline.{most_uses};
 ghost use Rattle.tdm_cli.specs.Best.{IsBest};
-ghost use Rattle.tdm_cli.specs.Rounds.{AreRoots, IsRoundBound};
+ghost use Rattle.tdm_cli.specs.Candidates.{IsCandidate};
 
+use crate::candidates::Candidate;
 use crate::certify::{Certified, checked_bound};
 use board_graph::BoardGraph;
-use bound_cert::weighted_share_cert;
+use bound_cert::{Certificate, weighted_share_cert};
 use even_legalise::legalise;
 use group_multipliers::largest_sum;
 use net_groups::Incidence;
-use ripup_reroute::loads_of;
 use solution_eval::value;
 use std::alloc::{AllocError, Global};
 use tdm_problem::{Problem, Solution, Trees};
@@ -127,37 +132,58 @@ pub(crate) fn tighten_best(
     Ok(())
 }
 
-/// Keeps the certificate by shares at the weights of the groups, and at the loads of the trees as lengths, where its
+/// Keeps a valid certificate where its bound is greater than the best.
+pub(crate) fn keep_checked(
+    alloc: Global,
+    problem: &Problem,
+    cert: Certificate,
+    best: &mut Best,
+) -> Result<(), AllocError>
+    requires for_problem { IsCertFor problem.now cert }
+    requires within { IsCert cert }
+    requires valid { IsValid problem.now cert }
+    requires few { sum_by length cert.potentials ≤ most_potential_values }
+    requires best { IsBest problem.now best.old.solution best.old.value best.old.certified }
+    ensures best { OnOk result (IsBest problem.now best.new.solution best.new.value best.new.certified) }
+    ensures higher { OnOk result (best.old.certified.bound ≤ best.new.certified.bound) }
+    ensures bound { OnOk result ((other : ℕ) → IsBound problem.now cert other → other ≤ best.new.certified.bound) }
+    ensures value { best.new.value ≡ best.old.value }
+{
+    let bound = checked_bound(alloc, problem, &cert)?;
+    if bound <= best.certified.bound {
+        return Ok(());
+    }
+    best.certified = Certified { cert, bound };
+    Ok(())
+}
+
+/// Keeps the certificate by shares at the weights of the groups and at the loads of a round's trees as lengths, where its
 /// bound is greater than the best.
 pub(crate) fn keep_certificate(
     alloc: Global,
     problem: &Problem,
     graph: &BoardGraph,
-    weights: &[u64],
-    numbers: &[u64],
-    trees: &Trees,
+    candidate: &Candidate,
     best: &mut Best,
 ) -> Result<(), AllocError>
     requires graph { graph.now ≡ graph_of problem.now }
     requires connectable { AllConnectable problem.now }
-    requires minimal { AreMinimalTrees problem.now trees.now }
-    requires count { length weights.now ≡ length problem.now.groups }
-    requires limited { All (λ weight. weight ≤ 2 ^ 40) weights.now }
-    requires roots { AreRoots problem.now weights.now numbers.now }
-    requires small { All (λ number. number ≤ 2 ^ 30) numbers.now }
+    requires candidate { IsCandidate problem.now candidate.now }
     requires best { IsBest problem.now best.old.solution best.old.value best.old.certified }
     ensures best { OnOk result (IsBest problem.now best.new.solution best.new.value best.new.certified) }
     ensures higher { OnOk result (best.old.certified.bound ≤ best.new.certified.bound) }
-    ensures bound { OnOk result ((other : ℕ) → IsRoundBound problem.now
-        (record { weights = weights.now; numbers = numbers.now; trees = trees.now }) other
+    ensures bound { OnOk result ((wire_length : ℕ → ℕ) → ListsLengths problem.now candidate.now.lengths.items wire_length
+        → (other : ℕ) → IsShareBound problem.now candidate.now.weights.items wire_length other
         → other ≤ best.new.certified.bound) }
     ensures value { best.new.value ≡ best.old.value }
 {
-    let lengths = loads_of(alloc, problem, trees, numbers)?;
-    let cert = weighted_share_cert(alloc, problem, graph, weights, &lengths)?;
-    let bound = checked_bound(alloc, problem, &cert)?;
-    if bound > best.certified.bound {
-        best.certified = Certified { cert, bound };
-    }
+    let cert = weighted_share_cert(
+        alloc,
+        problem,
+        graph,
+        &candidate.weights,
+        &candidate.lengths,
+    )?;
+    keep_checked(alloc, problem, cert, best)?;
     Ok(())
 }

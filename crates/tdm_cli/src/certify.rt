@@ -21,7 +21,7 @@ pub struct Certified {
     pub bound: u128,
 }
 
-/// The bound that a valid certificate by choices is checked to carry.
+/// The bound that a valid certificate is checked to carry.
 pub(crate) fn checked_bound(
     alloc: Global,
     problem: &Problem,
@@ -29,9 +29,8 @@ pub(crate) fn checked_bound(
 ) -> Result<u128, AllocError>
     requires for_problem { IsCertFor problem.now cert.now }
     requires valid { IsValid problem.now cert.now }
-    requires chosen { cert.now.grows ≡ false }
-    ensures bound { IfOk result (λ bound. bound ≡ bound_of problem.now cert.now) }
-    ensures is_bound { IfOk result (λ _. IsBound problem.now cert.now (bound_of problem.now cert.now)) }
+    ensures is_bound { IfOk result (IsBound problem.now cert.now) }
+    ensures chosen { cert.now.grows ≡ false → IfOk result (λ bound. bound ≡ bound_of problem.now cert.now) }
     ensures lower { IfOk result (IsLowerBound problem.now) }
 {
     match check(alloc, problem, cert)? {

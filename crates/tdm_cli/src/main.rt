@@ -5,6 +5,7 @@
 mod answer_report;
 mod baseline;
 mod best;
+mod candidates;
 mod certify;
 mod check;
 mod command;
@@ -18,6 +19,7 @@ mod fault_tests;
 mod generate;
 #[cfg(test)]
 mod generated_tests;
+mod growing;
 #[cfg(test)]
 mod large_tests;
 mod numbers;

@@ -58,7 +58,7 @@ pub(crate) fn all_nets(alloc: Global, problem: &Problem) -> Result<Vec<u32>, All
     Ok(nets)
 }
 
-/// Whether the trees have no more wires together than a solution may use.
+/// Whether the trees have no more wires together than `route` may write uses.
 pub(crate) fn are_few(trees: &Trees) -> bool
     ensures yes { result ≡ true → sum_by length trees.now ≤ most_uses }
     ensures no { result ≡ false → ¬ (sum_by length trees.now ≤ most_uses) }

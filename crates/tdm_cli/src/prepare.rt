@@ -1,11 +1,10 @@
 //! The pure part of `route`: what it makes of a problem.
-ghost use Rattle.std.specs.Prelude.{◌≡◌, ◌≤◌, length, sum_by, IfOk, IfErr};
+ghost use Rattle.std.specs.Prelude.{◌≡◌, ◌≤◌, ℕ, length, sum_by, IfOk, IfErr};
 ghost use Rattle.tdm_problem.specs.Board.{IsBoard};
 ghost use Rattle.tdm_problem.specs.Legal.{AllConnectable};
 ghost use Rattle.tdm_problem.specs.Value.{value_of};
 ghost use Rattle.board_graph.specs.Graph.{graph_of};
 ghost use Rattle.shortest_forest.specs.Baseline.{AreBaseTrees};
-ghost use Rattle.bound_cert.specs.Bound.{bound_of};
 ghost use Rattle.tdm_cli.specs.declared.baseline.TheConstants.{MAX_USES};
 ghost use Rattle.tdm_cli.specs.Best.{IsBest};
 ghost use Rattle.tdm_cli.specs.Improved.{IsImproved};
@@ -59,7 +58,8 @@ fn best_of_baseline(
 /// The best of the baseline and of so many rounds, or why the nets have no solution that may be written.
 fn best_of_rounds(alloc: Global, problem: &Problem, rounds: u32) -> Result<Best, Obstacle>
     ensures best { IfOk result (λ best. IsBest problem.now best.solution best.value best.certified) }
-    ensures improved { IfOk result (λ best. IsImproved problem.now rounds best.solution best.certified.cert) }
+    ensures improved { IfOk result (λ best. IsImproved problem.now rounds
+        best.solution best.certified.cert best.certified.bound) }
     ensures obstacle { IfErr result (ObstacleShows problem.now) }
 {
     let graph = BoardGraph::of(alloc, problem)?;
@@ -74,9 +74,8 @@ fn best_of_rounds(alloc: Global, problem: &Problem, rounds: u32) -> Result<Best,
 /// Routes the nets of a problem by so many rounds and certifies its board, or says why the nets have no solution that
 /// may be written.
 pub fn prepare(alloc: Global, problem: &Problem, rounds: u32) -> Result<Plan, Obstacle>
-    ensures improved { IfOk result (λ plan. IsImproved problem.now rounds plan.solution plan.cert) }
-    ensures report { IfOk result (λ plan. plan.report.items
-        ≡ route_report (value_of problem.now plan.solution) (bound_of problem.now plan.cert)) }
+    ensures plan { IfOk result (λ plan. (bound : ℕ) × IsImproved problem.now rounds plan.solution plan.cert bound
+        × (plan.report.items ≡ route_report (value_of problem.now plan.solution) bound)) }
     ensures obstacle { IfErr result (ObstacleShows problem.now) }
 {
     let best = best_of_rounds(alloc, problem, rounds)?;

@@ -1,6 +1,6 @@
 //! Rounds: the groups are weighed by how bad they are, the nets rerouted for these weights, and the wires shared by the
 //! roots of the weights.
-ghost use Rattle.std.specs.Prelude.{◌≡◌, ◌<◌, ◌≤◌, ◌^◌, ℕ, length, replicate, true, false, All, IfOk, OnOk};
+ghost use Rattle.std.specs.Prelude.{◌≡◌, ◌<◌, ◌≤◌, ◌^◌, ℕ, length, replicate, true, false, None, All, IfOk, OnOk};
 ghost use Rattle.std.specs.List.{range_with_len};
 ghost use Rattle.tdm_problem.specs.Legal.{AllConnectable};
 ghost use Rattle.tdm_problem.specs.Tight.{IsTight};
@@ -8,40 +8,42 @@ ghost use Rattle.board_graph.specs.Graph.{graph_of};
 ghost use Rattle.net_groups.specs.Incidence.{IsIncidenceOf};
 ghost use Rattle.ripup_reroute.specs.Rerouting.{AreMinimalTrees};
 ghost use Rattle.tdm_cli.specs.Best.{IsBest};
-ghost use Rattle.tdm_cli.specs.Rounds.{MeetsFrom, MeetsRounds};
-ghost use Rattle.tdm_cli.specs.Running.{AreWeights, IsWent, IsEnded};
+ghost use Rattle.tdm_cli.specs.Candidates.{AreCandidates, IsCandidate, IsOfRound};
+ghost use Rattle.tdm_cli.specs.Rounds.{AreRoots, MeetsRounds};
+ghost use Rattle.tdm_cli.specs.Running.{AreWeights, IsWent, IsEnded, MeetsFrom};
 
 use crate::best::{Best, keep_certificate, keep_solution, keep_traded, tighten_best};
+use crate::candidates::{Candidate, Candidates};
+use crate::growing::{keep_grown_group, keep_grown_rounds};
 use crate::numbers::{all_nets, are_few, numbers_of};
 use board_graph::BoardGraph;
 use bound_cert::UNIFORM_WEIGHT;
 use even_legalise::shared_sums;
 use group_multipliers::next_weights;
 use net_groups::Incidence;
-use ripup_reroute::{Effort, reroute_with};
+use ripup_reroute::{Effort, loads_of, reroute_with};
 use std::alloc::{AllocError, Global};
 use tdm_problem::{Problem, Trees};
 
 /// How many passes over all nets a round makes.
 const PASSES: u32 = 4;
 
-/// So many rounds look for shorter trees of all nets in their first pass, and from several FPGAs of the heavy ones.
-const FULL_ROUNDS: u32 = 5;
-
-/// What a round begins with: the weights of the groups, the trees, and the best so far.
+/// What a round begins with: the weights of the groups, the trees, the best so far, and what is remembered of the rounds
+/// before.
 #[derive(Drop)]
 struct Running {
     weights: Vec<u64>,
     trees: Trees,
     best: Best,
+    candidates: Candidates,
 }
 
-/// Improves a solution and a certificate by so many rounds, from the baseline's trees, and then lowers ratios of the best
-/// solution until none can be lowered by 2. The value does not rise, and the bound does not fall; unless the value becomes
-/// 0, one list of rounds meets both. Rounds end early where the value is 0, and after the first whose trees have more wires
-/// than a solution may use. Method: Lagrangian weights on the groups, renewed by how large their sums are; shares by the
-/// roots of the weights, which are the best where ratios are any real numbers (Cauchy and Schwarz). The only error is want
-/// of memory.
+/// Improves a solution and a certificate by so many rounds, from the baseline's trees, makes certificates by growth, and then
+/// lowers ratios of the best solution until none can be lowered by 2. The value does not rise, and the bound does not fall;
+/// unless the value becomes 0, one list of rounds meets both, and the bound is at least that by growth of the last of them
+/// that fits. Rounds end early where the value is 0, and after the first whose trees have more wires than may be written.
+/// Method: Lagrangian weights on the groups, renewed by how large their sums are; shares by the roots of the weights, which
+/// are the best where ratios are any real numbers (Cauchy and Schwarz). The only error is want of memory.
 pub fn improve(
     alloc: Global,
     problem: &Problem,
@@ -66,6 +68,7 @@ pub fn improve(
         weights,
         trees,
         best,
+        candidates: Candidates::new(),
     };
     all_rounds(
         alloc,
@@ -76,6 +79,8 @@ pub fn improve(
         &mut running,
         rounds,
     )?;
+    keep_grown_rounds(alloc, problem, &running.candidates, &mut running.best)?;
+    keep_grown_group(alloc, problem, &mut running.best)?;
     tighten_best(alloc, problem, &incidence, &mut running.best)?;
     Ok(running.best)
 }
@@ -97,11 +102,13 @@ fn all_rounds(
     requires weights { AreWeights problem.now running.old.weights.items }
     requires minimal { AreMinimalTrees problem.now running.old.trees }
     requires best { IsBest problem.now running.old.best.solution running.old.best.value running.old.best.certified }
+    requires candidates { AreCandidates problem.now running.old.candidates }
     ensures best { OnOk result (IsBest problem.now
         running.new.best.solution running.new.best.value running.new.best.certified) }
+    ensures candidates { OnOk result (AreCandidates problem.now running.new.candidates) }
     ensures rounds { OnOk result (0 < running.new.best.value
         → MeetsFrom problem.now rounds running.old.weights.items running.old.trees running.new.best.value
-        running.new.best.certified.bound) }
+        running.new.best.certified.bound running.new.candidates.last) }
 {
     for done in 0..rounds {
         if running.best.value == 0 {
@@ -115,7 +122,7 @@ fn all_rounds(
 }
 
 /// Does a round, where so many were done before. Answers whether another may follow: not where its trees have more wires
-/// than a solution may use, and not where the best value is 0.
+/// than may be written, and not where the best value is 0.
 fn round(
     alloc: Global,
     problem: &Problem,
@@ -132,17 +139,21 @@ fn round(
     requires weights { AreWeights problem.now running.old.weights.items }
     requires minimal { AreMinimalTrees problem.now running.old.trees }
     requires best { IsBest problem.now running.old.best.solution running.old.best.value running.old.best.certified }
+    requires candidates { AreCandidates problem.now running.old.candidates }
     ensures weights { OnOk result (AreWeights problem.now running.new.weights.items) }
     ensures minimal { OnOk result (AreMinimalTrees problem.now running.new.trees) }
     ensures best { OnOk result (IsBest problem.now
         running.new.best.solution running.new.best.value running.new.best.certified) }
+    ensures candidates { OnOk result (AreCandidates problem.now running.new.candidates) }
     ensures lower { OnOk result (running.new.best.value ≤ running.old.best.value) }
     ensures higher { OnOk result (running.old.best.certified.bound ≤ running.new.best.certified.bound) }
     ensures went { IfOk result (λ goes_on. goes_on ≡ true → IsWent problem.now
         running.old.weights.items running.old.trees running.new.weights.items running.new.trees
-        running.new.best.value running.new.best.certified.bound) }
+        running.new.best.value running.new.best.certified.bound running.new.candidates.last) }
     ensures ended { IfOk result (λ goes_on. goes_on ≡ false → 0 < running.new.best.value
         → IsEnded problem.now running.old.weights.items running.old.trees) }
+    ensures kept { IfOk result (λ goes_on. goes_on ≡ false → 0 < running.new.best.value
+        → running.new.candidates.last ≡ running.old.candidates.last) }
 {
     let numbers = numbers_of(alloc, incidence, &running.weights)?;
     let _rerouted = reroute_with(
@@ -153,7 +164,7 @@ fn round(
         &numbers,
         nets,
         PASSES,
-        effort_of(done),
+        Effort::of_round(done),
     )?;
     if !are_few(&running.trees) {
         return Ok(false);
@@ -176,15 +187,9 @@ fn round(
         done,
         &mut running.best,
     )?;
-    keep_certificate(
-        alloc,
-        problem,
-        graph,
-        &running.weights,
-        &numbers,
-        &running.trees,
-        &mut running.best,
-    )?;
+    let candidate = candidate_of(alloc, problem, &running.weights, &running.trees, &numbers)?;
+    keep_certificate(alloc, problem, graph, &candidate, &mut running.best)?;
+    running.candidates.add(candidate);
     if running.best.value == 0 {
         return Ok(false);
     }
@@ -192,16 +197,23 @@ fn round(
     Ok(true)
 }
 
-/// How much a round looks for, where so many were done before.
-fn effort_of(done: u32) -> Effort {
-    if done < FULL_ROUNDS {
-        return Effort {
-            full_passes: 1,
-            several_starts: true,
-        };
-    }
-    Effort {
-        full_passes: 0,
-        several_starts: false,
-    }
+/// What is remembered of a round with these weights of groups, that led to these trees.
+fn candidate_of(
+    alloc: Global,
+    problem: &Problem,
+    weights: &[u64],
+    trees: &Trees,
+    numbers: &[u64],
+) -> Result<Candidate, AllocError>
+    requires minimal { AreMinimalTrees problem.now trees.now }
+    requires weights { AreWeights problem.now weights.now }
+    requires roots { AreRoots problem.now weights.now numbers.now }
+    requires small { All (λ number. number ≤ 2 ^ 30) numbers.now }
+    ensures candidate { IfOk result (IsCandidate problem.now) }
+    ensures of_round { IfOk result (IsOfRound problem.now
+        (record { weights = weights.now; numbers = numbers.now; trees = trees.now })) }
+{
+    let lengths = loads_of(alloc, problem, trees, numbers)?;
+    let weights = weights.to_vec(alloc)?;
+    Ok(Candidate::new(weights, lengths))
 }

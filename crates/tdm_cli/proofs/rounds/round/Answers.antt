@@ -1,10 +1,14 @@
 use Rattle.std.proofs.Common.{◌≡◌, ℕ, ◌^◌, ◌<◌, ◌≤◌, List, length, map, refl, sym, ap, ◌∙◌, subst, arith}
-use Rattle.std.specs.Prelude.{All}
+use Rattle.std.specs.Prelude.{All, Option, MatchOption}
 use Rattle.std.proofs.lemmas.List.{length-map}
-use Rattle.tdm_problem.specs.Value.{group_sum, value_of}
+use Rattle.std.proofs.lemmas.List.FromFn.{get_or-map-range_with_len}
+use Rattle.tdm_problem.specs.Value.{group_sum, largest, value_of}
 use Rattle.group_multipliers.specs.Renewal.{renewed}
 use Rattle.even_legalise.specs.Shared.{shared_routing}
-use Rattle.tdm_cli.specs.Rounds.{IsRoundBound}
+use Rattle.bound_cert.specs.Weighted.{IsShareBound, ListsLengths}
+use Rattle.tdm_cli.specs.declared.candidates.Candidate.{Candidate}
+use Rattle.tdm_cli.specs.Candidates.{IsOfRound}
+use Rattle.tdm_cli.specs.Rounds.{Round, round_length}
 use Rattle.tdm_cli.proofs.NumberLaws.{range-below}
 use Rattle.tdm_cli.proofs.RunningLaws.{Reroutes-made, renewed-count}
 use Rattle.tdm_cli.proofs.SharedValues.{shared-sums_small}
@@ -32,6 +36,22 @@ next_weights-requires-clause-small c =
     (shared-sums_small c.args.problem.now c.reroute_with.new.trees c.deref-3.result.now c.requires.best.may_be_written.sayable.limits c.are_few.ensures.rising paired
     (c.are_few.ensures.yes c.if-not-are_few.false))
 
+pub next_weights-requires-clause-some : goal.next_weights-requires-clause-some
+next_weights-requires-clause-some c =
+    let board = c.args.problem.now in
+    let trees : List (List ℕ) = c.reroute_with.new.trees in
+    let worth : ℕ = value_of board (shared_routing board trees c.deref-3.result.now) in
+    let most : largest c.deref-10.result.now ≡ worth = ap largest (c.deref-10.ensures.value ∙ c.in_ok-sums.ensures) in
+    let numbers : c.deref-4.result.now ≡ c.deref-3.result.now = c.deref-4.ensures.value ∙ sym c.deref-3.ensures.value in
+    omega (
+      arith,
+      most,
+      c.if-running-eq0.false,
+      c.keep_certificate.ensures.value,
+      c.in_ok-keep_traded.ensures.lower,
+      subst (λ (ns : List ℕ). c.keep_solution.new.best.value ≤ value_of board (shared_routing board trees ns)) numbers c.in_ok-keep_solution.ensures.value,
+    )
+
 pub returns-clause-weights : goal.returns-clause-weights
 returns-clause-weights c =
     let sums : length c.deref-10.result.now ≡ length c.deref-9.result.now =
@@ -50,6 +70,12 @@ returns-clause-went c _ =
     let weights : List ℕ = c.args.running.now.weights.items in
     let numbers : List ℕ = c.in_ok-numbers.numbers.items in
     let trees : List (List ℕ) = c.reroute_with.new.trees in
+    let round : Round = record { weights = weights; numbers = numbers; trees = trees } in
+    let of_round : IsOfRound board round c.in_ok-candidate.candidate =
+    subst (λ (ws : List ℕ). IsOfRound board (record { weights = ws; numbers = numbers; trees = trees }) c.in_ok-candidate.candidate) c.deref-7.ensures.value
+    (subst (λ (ns : List ℕ). IsOfRound board (record { weights = c.deref-7.result.now; numbers = ns; trees = trees }) c.in_ok-candidate.candidate) c.deref-8.ensures.value c.in_ok-candidate.ensures.of_round) in
+    let lists : ListsLengths board c.in_ok-candidate.candidate.lengths.items (round_length board round) =
+    subst (λ (ls : List ℕ). ListsLengths board ls (round_length board round)) (sym of_round.lengths) (λ e there. get_or-map-range_with_len (round_length board round) 0 (length board.wires) e e 0 there (omega arith)) in
     let sums_of : List ℕ → List ℕ = λ ns. map (group_sum (shared_routing board trees ns)) board.groups in
     record {
       numbers = numbers;
@@ -64,8 +90,8 @@ returns-clause-went c _ =
             subst (λ (ns : List ℕ). c.keep_certificate.new.best.value ≤ value_of board (shared_routing board trees ns)) c.deref-4.ensures.value
             (omega (arith, c.keep_certificate.ensures.value, c.in_ok-keep_traded.ensures.lower, c.in_ok-keep_solution.ensures.value));
         no_weaker = λ fits other is.
-            c.in_ok-keep_certificate.ensures.bound other
-            (subst (λ (ws : List ℕ). IsRoundBound board (record { weights = ws; numbers = c.deref-8.result.now; trees = trees }) other) (sym c.deref-7.ensures.value)
-            (subst (λ (ns : List ℕ). IsRoundBound board (record { weights = weights; numbers = ns; trees = trees }) other) (sym c.deref-8.ensures.value) is));
+            c.in_ok-keep_certificate.ensures.bound (round_length board round) lists other
+            (subst (λ (ws : List ℕ). IsShareBound board ws (round_length board round) other) (sym of_round.weights) is);
       };
+      last_is = subst (λ (last : Option Candidate). MatchOption last ⊥ (IsOfRound board round)) (sym c.add.ensures.last) of_round;
     }
