@@ -4,6 +4,7 @@
 PROGRAM is the built `tdm`, and the one on the PATH where it is left out. A test is a class for each script.
 """
 import os
+import random
 import re
 import shutil
 import subprocess
@@ -76,6 +77,37 @@ class Components(unittest.TestCase):
 
     def test_a_broken_board_is_refused(self):
         self.assertEqual(ran("components.py", example("broken.board"))[0], 1)
+
+
+class Growth(unittest.TestCase):
+    def test_the_bound_of_the_star_is_said(self):
+        words = [example("star.board"), example("star_by_growth.cert")]
+        self.assertEqual(ran("growth.py", *words), (0, "bound 6\n"))
+
+    def test_a_certificate_by_choices_is_refused(self):
+        self.assertEqual(ran("growth.py", example("shared_wire.board"), example("by_hand.cert"))[0], 1)
+
+    def test_check_says_the_same_of_random_certificates(self):
+        draw = random.Random(1)
+        with tempfile.TemporaryDirectory() as folder:
+            board, cert = Path(folder) / "board", Path(folder) / "cert"
+            for _ in range(100):
+                self.put_random(draw, board, cert)
+                done = subprocess.run([PROGRAM, "check", board, cert], capture_output=True, text=True)
+                self.assertEqual(ran("growth.py", board, cert), (done.returncode, done.stdout), board.read_text())
+
+    def put_random(self, draw, board, cert):
+        """Writes a board of a few FPGAs, of which some may lie apart, and a certificate by growth for it."""
+        fpgas, wires, nets, groups = draw.randint(2, 9), draw.randint(0, 14), draw.randint(1, 7), draw.randint(1, 4)
+        rows = [[fpgas, wires, nets, groups]] + [draw.sample(range(fpgas), 2) for _ in range(wires)]
+        rows += [draw.sample(range(fpgas), draw.randint(1, min(6, fpgas))) for _ in range(nets)]
+        rows += [draw.sample(range(nets), draw.randint(1, nets)) for _ in range(groups)]
+        board.write_text("".join(" ".join(map(str, row)) + "\n" for row in rows))
+        kind, most = draw.choice([1, 2]), draw.choice([2, 6, 40])
+        numbers = [draw.choice([0, 1, 5, 1_000_000]) for _ in range(groups)]
+        numbers += [draw.randint(0, most) for _ in range(wires if kind == 1 else 0)]
+        header = f"4 {kind} {most if kind == 2 else 0} 0\n"
+        cert.write_text(header + "".join(f"{number}\n" for number in numbers))
 
 
 class Picture(unittest.TestCase):
