@@ -1,4 +1,4 @@
--- The certificate that `route` writes: the one of two with the greater bound.
+-- The certificate that `route` has before the rounds: the one of two with the greater bound.
 use Rattle.std.specs.Prelude.{◌≡◌, ◌⊎◌, ℕ, ◌<◌, ◌≤◌, length, sum_by}
 use Rattle.tdm_problem.specs.Board.{Board}
 use Rattle.bound_cert.specs.Limits.{most_potential_values}

@@ -107,8 +107,8 @@ pub(crate) fn keep_traded(
         done == 0,
     )?;
     if let Some(solution) = found {
-        best.value = value(alloc, problem, &solution)?;
         best.solution = solution;
+        best.value = value(alloc, problem, &best.solution)?;
     }
     Ok(())
 }

@@ -1,4 +1,4 @@
-//! The certificate of a board: of two that are made, the one with the greater bound.
+//! The certificate of a board before the rounds: of two that are made, the one with the greater bound.
 ghost use Rattle.std.specs.Prelude.{◌≡◌, false, IfOk};
 ghost use Rattle.board_graph.specs.Graph.{graph_of};
 ghost use Rattle.bound_cert.specs.Certificate.{IsCertFor};
