@@ -4,6 +4,11 @@ use Rattle.tdm_problem.specs.Board.{Board}
 use Rattle.tdm_problem.specs.Walk.{Links}
 use Rattle.shortest_forest.specs.Reach.{Reach, parent_of}
 
+-- the number of FPGAs of the graph, and the wires of the baseline tree that was built last
+pub record BaseBuilder : Type 0 where
+  pub fpgas : ℕ
+  pub wires : List ℕ
+
 -- FPGA f is marked
 abbrev pub IsMarked : List Bool → ℕ → Type 0
 IsMarked marks f = slice_index_or marks f false ≡ true

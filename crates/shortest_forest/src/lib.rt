@@ -15,6 +15,7 @@ mod least;
 #[cfg(test)]
 mod length_tests;
 mod lengths;
+mod marks;
 mod nearest;
 mod search;
 mod stamped;
@@ -23,7 +24,7 @@ mod tests;
 mod way;
 mod wire_ends;
 
-pub use baseline::base_tree;
+pub use baseline::{BaseTrees, base_tree};
 pub use hop_forest::{Forest, hops};
 pub use label::Label;
 pub use laws::{caps_may_fall, ways_back_are_walks};
