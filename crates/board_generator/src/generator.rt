@@ -1,8 +1,9 @@
 //! Boards from three numbers.
-ghost use Rattle.std.specs.Prelude.{◌≡◌, ◌+◌, ◌<◌, ◌≤◌, ◌%◌, ◌^◌, [], ◌++◌, length, map, OnOk, IfOk};
+ghost use Rattle.std.specs.Prelude.{◌≡◌, ◌+◌, ◌<◌, ◌≤◌, ◌%◌, [], ◌++◌, length, map, OnOk, IfOk};
 ghost use Rattle.std.specs.List.{range_with_len};
 ghost use Rattle.tdm_problem.specs.Board.{IsBoard};
 ghost use Rattle.tdm_problem.specs.Legal.{AllConnectable};
+ghost use Rattle.tdm_problem.specs.Limits.{most_nets, most_groups};
 ghost use Rattle.board_generator.specs.Generated.{AreSizes, wire_over, net_of, group_of, generated};
 
 use std::alloc::{AllocError, Global};
@@ -54,9 +55,12 @@ fn push_wires(draft: &mut ProblemDraft, fpgas: u32, step: u32) -> Result<(), All
 fn push_nets(draft: &mut ProblemDraft, fpgas: u32, nets: u32) -> Result<(), AllocError>
     requires fpgas { draft.old.fpgas ≡ fpgas }
     requires some { 2 ≤ fpgas }
-    requires few { nets ≤ 2 ^ 20 }
+    requires few { nets ≤ most_nets }
     requires none { draft.old.nets ≡ [] }
-    ensures { OnOk result (draft.new ≡ record draft.old { nets = map (net_of fpgas) (range_with_len 0 nets) }) }
+    ensures { OnOk result (draft.new ≡ record draft.old {
+      nets =
+          map (net_of fpgas) (range_with_len 0 nets);
+    }) }
 {
     for i in 0..nets {
         draft.push_net(&[7 * i % fpgas, (11 * i + 3) % fpgas, (13 * i + 5) % fpgas])?;
@@ -68,9 +72,12 @@ fn push_nets(draft: &mut ProblemDraft, fpgas: u32, nets: u32) -> Result<(), Allo
 fn push_groups(draft: &mut ProblemDraft, nets: u32, groups: u32) -> Result<(), AllocError>
     requires nets { length draft.old.nets ≡ nets }
     requires some { 1 ≤ nets }
-    requires few { groups ≤ 2 ^ 20 }
+    requires few { groups ≤ most_groups }
     requires none { draft.old.groups ≡ [] }
-    ensures { OnOk result (draft.new ≡ record draft.old { groups = map (group_of nets) (range_with_len 0 groups) }) }
+    ensures { OnOk result (draft.new ≡ record draft.old {
+      groups =
+          map (group_of nets) (range_with_len 0 groups);
+    }) }
 {
     for j in 0..groups {
         draft.push_group(&[j % nets, (3 * j + 1) % nets, (5 * j + 2) % nets])?;

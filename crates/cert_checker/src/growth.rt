@@ -39,7 +39,8 @@ impl Model for Grower {
     ghost view = { λ g. record { fpgas = length g.search.labels; lengths = g.lengths.items } };
 
     ghost invariant = { λ g. HasNoGoals g.search.goals × (length g.search.goals ≡ length g.search.labels)
-        × (g.up.items ≡ g.lengths.items) × (g.down.items ≡ g.lengths.items) × (g.worn.listed ≡ []) × (g.worn.limit ≡ length g.lengths.items)
+        × (g.up.items ≡ g.lengths.items) × (g.down.items ≡ g.lengths.items) × (g.worn.listed ≡ [])
+        × (g.worn.limit ≡ length g.lengths.items)
         × (g.near.limit ≡ length g.search.labels)
         × ((e : ℕ) → slice_index g.lengths.items e ≤ most_length) };
 }
@@ -80,7 +81,8 @@ impl Grower {
         requires there { All (λ f. f < graph.now.fpgas) fpgas.now }
         requires distinct { AllPairs (λ x y. x ≢ y) fpgas.now }
         ensures same { self.new ≡ self.old }
-        ensures growth { IfOk result (IsGrowth (board_of graph.now) (slice_index self.old.lengths) fpgas.now) }
+        ensures growth { IfOk result (IsGrowth (board_of graph.now) (slice_index self.old.lengths)
+            fpgas.now) }
     {
         let Some((root, growing)) = fpgas.split_first() else {
             return Ok(0);
@@ -192,10 +194,12 @@ fn take_off(up: &mut Vec<u64>, down: &mut Vec<u64>, wire: u32, from: u32, to: u3
     requires up { wire < length up.old.items }
     requires down { wire < length down.old.items }
     requires differ { from ≢ to }
-    ensures taken { IsTakenOff wire from to fall (arcs_of up.old.items down.old.items) (arcs_of up.new.items down.new.items) }
+    ensures taken { IsTakenOff wire from to fall (arcs_of up.old.items down.old.items)
+        (arcs_of up.new.items down.new.items) }
     ensures up { length up.new.items ≡ length up.old.items }
     ensures down { length down.new.items ≡ length down.old.items }
-    ensures listed { (worn : List ℕ) → Contains worn wire → StaysListed up.old.items down.old.items worn up.new.items down.new.items worn }
+    ensures listed { (worn : List ℕ) → Contains worn wire
+        → StaysListed up.old.items down.old.items worn up.new.items down.new.items worn }
 {
     let e = wire as usize;
     if from < to {
@@ -220,11 +224,13 @@ fn wear_wire(
     requires down { wire < length down.old.items }
     requires limit { worn.old.limit ≡ length up.old.items }
     requires differ { from ≢ to }
-    ensures taken { OnOk result (IsTakenOff wire from to fall (arcs_of up.old.items down.old.items) (arcs_of up.new.items down.new.items)) }
+    ensures taken { OnOk result (IsTakenOff wire from to fall (arcs_of up.old.items down.old.items)
+        (arcs_of up.new.items down.new.items)) }
     ensures up { length up.new.items ≡ length up.old.items }
     ensures down { length down.new.items ≡ length down.old.items }
     ensures limit { worn.new.limit ≡ worn.old.limit }
-    ensures listed { StaysListed up.old.items down.old.items worn.old.listed up.new.items down.new.items worn.new.listed }
+    ensures listed { StaysListed up.old.items down.old.items worn.old.listed up.new.items down.new.items
+        worn.new.listed }
 {
     if fall == 0 {
         return Ok(());
@@ -275,7 +281,8 @@ fn wear_at(
     ensures worn_limit { worn.new.limit ≡ worn.old.limit }
     ensures up { length up.new.items ≡ length up.old.items }
     ensures down { length down.new.items ≡ length down.old.items }
-    ensures listed { StaysListed up.old.items down.old.items worn.old.listed up.new.items down.new.items worn.new.listed }
+    ensures listed { StaysListed up.old.items down.old.items worn.old.listed up.new.items down.new.items
+        worn.new.listed }
 {
     let here = height(search, reach, f);
     for x in graph.neighbours(f) {
@@ -302,7 +309,8 @@ fn wear(
     requires graph { IsGraph graph.now }
     requires there { x < graph.now.fpgas }
     requires labels { length search.now.labels ≡ graph.now.fpgas }
-    requires reached { HasReached (board_of graph.now) (arcs_of up.old.items down.old.items) x search.now reach }
+    requires reached { HasReached (board_of graph.now) (arcs_of up.old.items down.old.items) x search.now
+        reach }
     requires up { length up.old.items ≡ length graph.now.wires }
     requires down { length down.old.items ≡ length graph.now.wires }
     requires worn_limit { worn.old.limit ≡ length graph.now.wires }
@@ -313,7 +321,8 @@ fn wear(
     ensures worn_limit { worn.new.limit ≡ worn.old.limit }
     ensures up { length up.new.items ≡ length up.old.items }
     ensures down { length down.new.items ≡ length down.old.items }
-    ensures listed { StaysListed up.old.items down.old.items worn.old.listed up.new.items down.new.items worn.new.listed }
+    ensures listed { StaysListed up.old.items down.old.items worn.old.listed up.new.items down.new.items
+        worn.new.listed }
 {
     near.clear();
     near.add(x)?;
@@ -385,13 +394,16 @@ fn grow_all(
     ensures labels { length search.new.labels ≡ length search.old.labels }
     ensures goals { length search.new.goals ≡ length search.old.goals }
     ensures among { (f : ℕ) → IsGoal search.new.goals f → Contains (root ∷ growing.now) f }
-    ensures growth { IfOk result (λ growth. (GrowOver (board_of graph.now) root growing.now (arcs_of up.old.items down.old.items) growth)
+    ensures growth { IfOk result
+        (λ growth. (GrowOver (board_of graph.now) root growing.now (arcs_of up.old.items down.old.items)
+        growth)
         ⊎ ((growth ≡ 0) × ¬ IsConnectable (board_of graph.now) (root ∷ growing.now))) }
     ensures up { length up.new.items ≡ length up.old.items }
     ensures down { length down.new.items ≡ length down.old.items }
     ensures worn_limit { worn.new.limit ≡ worn.old.limit }
     ensures near_limit { near.new.limit ≡ near.old.limit }
-    ensures listed { StaysListed up.old.items down.old.items worn.old.listed up.new.items down.new.items worn.new.listed }
+    ensures listed { StaysListed up.old.items down.old.items worn.old.listed up.new.items down.new.items
+        worn.new.listed }
 {
     let mut growth = 0;
     for i in 0..growing.len() {

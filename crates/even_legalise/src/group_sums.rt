@@ -68,7 +68,8 @@ fn sum_of_net(wires: &[u32], number: u64, least: &[u64], claims: &[u64]) -> u128
     requires some { All (λ e. 1 ≤ slice_index least.now e) wires.now }
     requires least_small { All (λ e. slice_index least.now e ≤ 2 ^ 30) wires.now }
     requires some_claims { All (λ e. 1 ≤ slice_index claims.now e) wires.now }
-    requires few { All (λ e. slice_index claims.now e ≤ 2 ^ 30 * max number (slice_index least.now e)) wires.now }
+    requires few { All (λ e. slice_index claims.now e ≤ 2 ^ 30 * max number (slice_index least.now e))
+        wires.now }
     ensures total { result ≡ sum_by (λ e. even_ratio
         (share_for (slice_index claims.now e) 1 (max number (slice_index least.now e)))) wires.now }
     ensures small { result < 2 ^ 96 }

@@ -79,7 +79,8 @@ fn set_shared_uses(
     requires some { All (λ e. 1 ≤ slice_index least.now e) wires.now }
     requires least_small { All (λ e. slice_index least.now e ≤ 2 ^ 30) wires.now }
     requires some_claims { All (λ e. 1 ≤ slice_index claims.now e) wires.now }
-    requires few { All (λ e. slice_index claims.now e ≤ 2 ^ 30 * max number (slice_index least.now e)) wires.now }
+    requires few { All (λ e. slice_index claims.now e ≤ 2 ^ 30 * max number (slice_index least.now e))
+        wires.now }
     ensures { OnOk result (uses.new.items ≡ map (λ e. record {
       wire = e;
       ratio = even_ratio (share_for (slice_index claims.now e) 1 (max number (slice_index least.now e)));

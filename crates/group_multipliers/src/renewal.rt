@@ -28,7 +28,7 @@ pub fn next_weights(alloc: Global, weights: &[u64], sums: &[u128]) -> Result<Vec
 {
     let mut renewal = pulls_of(alloc, weights, sums, largest_sum(sums))?;
     let strongest = largest_pull(&renewal);
-    spread(&mut renewal, strongest);
+    put_weights(&mut renewal, strongest);
     Ok(renewal)
 }
 
@@ -93,7 +93,7 @@ fn pull_of(weight: u64, sum: u128, greatest: u128) -> u64
 }
 
 /// Puts the weight for each pull in its place.
-fn spread(pulls: &mut [u64], strongest: u64)
+fn put_weights(pulls: &mut [u64], strongest: u64)
     requires limited { strongest ≤ 2 ^ 40 }
     requires within { All (λ pull. pull ≤ strongest) pulls.old }
     requires some { 0 < strongest }

@@ -6,7 +6,7 @@ ghost use Rattle.tdm_problem.specs.Routing.{wires_of, IsFor};
 ghost use Rattle.tdm_problem.specs.Walk.{Joins};
 ghost use Rattle.solution_eval.specs.Violations.{IsJoined, AllBelow, IsFirstWithout};
 
-use crate::spread::{Step, leads_to_all};
+use crate::flood::{Step, leads_to_all};
 use crate::steps::list_steps;
 use std::alloc::{AllocError, Global};
 use tdm_problem::{Problem, Solution, WireUse};

@@ -65,7 +65,10 @@ impl MemoryStore {
 
     /// Makes the file of this name hold these bytes. Where memory is wanting, nothing changes.
     pub fn put_file(&mut self, name: &str, bytes: &[u8]) -> Result<(), AllocError>
-        ensures ok { OnOk result (self.new ≡ record self.old { files = with_file name.now bytes.now self.old.files }) }
+        ensures ok { OnOk result (self.new ≡ record self.old {
+          files =
+              with_file name.now bytes.now self.old.files;
+        }) }
         ensures err { OnErr result (self.new ≡ self.old) }
     {
         self.files.put(name, bytes)
@@ -147,7 +150,8 @@ impl MemoryStore {
     /// wanting, the slot is closed.
     pub fn open_input(&mut self, slot: InSlot, name: &str) -> Result<bool, AllocError>
         ensures ok { IfOk result (λ found. seen_in_memory self.new ≡
-            (if found then opened slot name.now (seen_in_memory self.old) else input_closed slot (seen_in_memory self.old))) }
+            (if found then opened slot name.now (seen_in_memory self.old) else input_closed slot
+            (seen_in_memory self.old))) }
         ensures found { IfOk result (λ found. ForSome (files_of (seen_in_memory self.old))
             (λ files. found ≡ contains_key files name.now)) }
         ensures err { OnErr result (seen_in_memory self.new ≡ input_closed slot (seen_in_memory self.old)) }
@@ -202,7 +206,8 @@ impl MemoryStore {
     /// Adds bytes to the file of an open output. Where memory is wanting, nothing changes.
     pub fn write(&mut self, slot: OutSlot, piece: &[u8]) -> Result<(), AllocError>
         requires { IsTrue (output_is_open slot (seen_in_memory self.old)) }
-        ensures ok { OnOk result (seen_in_memory self.new ≡ written slot piece.now (seen_in_memory self.old)) }
+        ensures ok { OnOk result (seen_in_memory self.new
+            ≡ written slot piece.now (seen_in_memory self.old)) }
         ensures err { OnErr result (self.new ≡ self.old) }
     {
         self.append(slot.place(), piece)?;

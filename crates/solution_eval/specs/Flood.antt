@@ -1,5 +1,5 @@
 use Rattle.std.specs.Prelude.{◌≡◌, ℕ, ◌<◌, ◌≤◌, ◌==◌, ◌⊎◌, List, [], ◌∷◌, length, take, map, count_by, slice_index, All, Contains}
-use Rattle.solution_eval.specs.declared.spread.Step.{Step}
+use Rattle.solution_eval.specs.declared.flood.Step.{Step}
 
 -- the steps lead one after another from a through the listed FPGAs, the last of which is b
 abbrev pub IsPath : List Step → ℕ → List ℕ → ℕ → Type 0
@@ -7,8 +7,8 @@ IsPath steps a [] b = a ≡ b
 IsPath steps a (x ∷ xs) b = Contains steps (record { from = a; to = x }) × IsPath steps x xs b
 
 -- some steps lead from a to b
-abbrev pub Leads : List Step → ℕ → ℕ → Type 0
-Leads steps a b = (path : List ℕ) × IsPath steps a path b
+abbrev pub HasPath : List Step → ℕ → ℕ → Type 0
+HasPath steps a b = (path : List ℕ) × IsPath steps a path b
 
 -- no mark is above this one, and the queue lists the FPGAs that bear it, each once
 pub record ListsMarked (mark : ℕ) (marks queue : List ℕ) : Type 0 where

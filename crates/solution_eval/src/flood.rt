@@ -2,8 +2,8 @@
 ghost use Rattle.std.specs.Prelude.{◌≡◌, ℕ, ◌<◌, ◌≤◌, ◌==◌, [], ◌∷◌, ◌++◌, length, filter, slice_index, slice_set, All, Contains, IsTrue, IfOk, OnOk, ◌↔◌, if◌then◌else◌};
 ghost use Rattle.std.specs.List.{AllWithin};
 ghost use Rattle.std.specs.List.Sorted.{IsNonDecreasingBy};
-ghost use Rattle.solution_eval.specs.declared.spread.Step.{Step};
-ghost use Rattle.solution_eval.specs.Spread.{Leads, ListsMarked, Reaches};
+ghost use Rattle.solution_eval.specs.declared.flood.Step.{Step};
+ghost use Rattle.solution_eval.specs.Flood.{HasPath, ListsMarked, Reaches};
 
 use std::alloc::AllocError;
 
@@ -81,7 +81,7 @@ fn reach_all(
 /// Reaches all FPGAs to which steps lead from the one FPGA in the queue, one step after another. The steps stand
 /// in the order of the FPGAs that they leave. Each FPGA and each step is looked at once, but for the searches
 /// among the steps.
-fn spread(
+fn flood(
     steps: &[Step],
     mark: u32,
     marks: &mut [u32],
@@ -94,7 +94,7 @@ fn spread(
     ensures lists { OnOk result (ListsMarked mark marks.new queue.new.items) }
     ensures size { OnOk result (length marks.new ≡ length marks.old) }
     ensures source { OnOk result (slice_index marks.new (slice_index queue.old.items 0) ≡ mark) }
-    ensures led { OnOk result (All (Leads steps.now (slice_index queue.old.items 0)) queue.new.items) }
+    ensures led { OnOk result (All (HasPath steps.now (slice_index queue.old.items 0)) queue.new.items) }
     ensures closed { OnOk result ((v w : ℕ) → v < length marks.old → slice_index marks.new v ≡ mark
         → Contains steps.now (record { from = v; to = w }) → slice_index marks.new w ≡ mark) }
 {
@@ -130,11 +130,11 @@ pub(crate) fn leads_to_all(
     requires fpgas_there { All (λ f. f < length marks.old) fpgas.now }
     requires new { All (λ m. m < mark) marks.old }
     ensures leads { IfOk result (λ leads. IsTrue leads
-        ↔ All (Leads steps.now (slice_index fpgas.now 0)) fpgas.now) }
+        ↔ All (HasPath steps.now (slice_index fpgas.now 0)) fpgas.now) }
     ensures size { OnOk result (length marks.new ≡ length marks.old) }
     ensures highest { OnOk result (All (λ m. m ≤ mark) marks.new) }
 {
     start(fpgas[0], mark, marks, queue)?;
-    spread(steps, mark, marks, queue)?;
+    flood(steps, mark, marks, queue)?;
     Ok(all_marked(marks, fpgas, mark))
 }
