@@ -119,7 +119,8 @@ out-positive Out0 = omega arith
 out-positive Out1 = omega arith
 out-positive Out2 = omega arith
 
-apart : (slot other : OutSlot) → (out_place other ≤ out_place slot - 1) ⊎ (out_place slot < out_place other) → output_place slot ≢ output_place other
+apart : (slot other : OutSlot) → (out_place other ≤ out_place slot - 1) ⊎ (out_place slot < out_place other)
+    → output_place slot ≢ output_place other
 unfolding output_place
 apart Out0 Out0 (inl h) e = omega arith
 apart Out0 Out0 (inr h) e = omega arith
