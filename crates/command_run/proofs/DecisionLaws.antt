@@ -110,11 +110,16 @@ holds-from opened failed input unreadable before between after same held = held
 holds-from opened failed input (text bytes) before between after same held =
     (λ files is. held.0 files (same ∙ is), λ near. read-from input.slot input.limit input.name before between after same (held.1 near))
 
-held-from : (opened : ℕ) (failed : Option InSlot) (inputs : List Input) (contents : List Content) (before between after : Seen) → files_of between ≡ files_of before → HoldEach opened failed inputs contents between after → HoldEach opened failed inputs contents before after
-held-from opened failed [] [] before between after same held = tt
-held-from opened failed (input ∷ inputs) (content ∷ contents) before between after same held =
-    (holds-from opened failed input content before between after same held.0, held-from opened failed inputs contents before between after same held.1)
-held-from opened failed _ _ before between after same held = held
+-- what each input holds, all of them hold
+pub each-held : (opened : ℕ) (failed : Option InSlot) (before after earlier later : Seen)
+    → ((input : Input) (content : Content) → Holds opened failed input content before after
+    → Holds opened failed input content earlier later)
+    → (inputs : List Input) (contents : List Content) → HoldEach opened failed inputs contents before after
+    → HoldEach opened failed inputs contents earlier later
+each-held opened failed before after earlier later one [] [] held = tt
+each-held opened failed before after earlier later one (input ∷ inputs) (content ∷ contents) held =
+    (one input content held.0, each-held opened failed before after earlier later one inputs contents held.1)
+each-held opened failed before after earlier later one _ _ held = held
 
 -- ---- reading
 
@@ -188,7 +193,10 @@ module _ {D : Type 0} {counts : D → Counts} {steady : D → Type 0} {seen : D 
         contents = text had.bytes ∷ later_came.contents;
         held = (
           (had.held, λ near. still-read input.slot input.limit input.name (seen before) (seen between) (seen after) had.through (later.only.inputs input.slot (inl (omega arith)))),
-          held-from outcome.opened outcome.unread inputs later_came.contents (seen before) (seen between) (seen after) had.only.files later_came.held,
+          each-held outcome.opened outcome.unread (seen between) (seen after) (seen before) (seen after)
+              (λ one content. holds-from outcome.opened outcome.unread one content
+              (seen before) (seen between) (seen after) had.only.files)
+              inputs later_came.contents later_came.held,
         );
         called = subst (λ said. FromText faults input.slot kind said (λ v. Then v later_came.contents) outcome) (sym had.says) later_came.called;
         failed = failed-later outcome.unread later_came.failed;

@@ -1,5 +1,5 @@
 -- How a run ends, by what was decided and how it was put out.
-use Rattle.std.proofs.Common.{◌≡◌, ◌⊎◌, ℕ, ◌+◌, ◌≤◌, List, [], ◌∷◌, length, sym, ap, subst, ◌∙◌, inl, inr, arith}
+use Rattle.std.proofs.Common.{◌≡◌, ◌⊎◌, ℕ, ◌+◌, ◌≤◌, List, length, sym, ap, subst, ◌∙◌, inl, inr, arith}
 use Rattle.std.proofs.lemmas.List.{length-map}
 use Rattle.std.specs.Prelude.{Option, Some, None}
 use Rattle.tdm_desk.specs.declared.slots.InSlot.{InSlot}
@@ -11,12 +11,12 @@ use Rattle.command_run.specs.declared.outcome.Decision.{Decision}
 use Rattle.command_run.specs.declared.outcome.Decision.TheVariants as decision
 use Rattle.command_run.specs.Slots.{KeepsInputs}
 use Rattle.command_run.specs.Outcome.{Outcome, Faults, outcome_of, with_unread, HasFailed}
-use Rattle.command_run.specs.Inputs.{Input, Content, no_file, unreadable, text, Holds, HoldEach, unread}
+use Rattle.command_run.specs.Inputs.{Input, Content, no_file, unreadable, text, Holds, unread}
 use Rattle.command_run.specs.Decision.{OnlyReads, IsCalledFor, Decides}
 use Rattle.command_run.specs.Outputs.{IsStop, IsPutOut, IsCutOff, PutsOut}
 use Rattle.command_run.specs.Concluded.{HasRoom, Concludes}
 use Rattle.command_run.specs.Ends.{RunEnds}
-use Rattle.command_run.proofs.DecisionLaws.{kept-twice, still-read}
+use Rattle.command_run.proofs.DecisionLaws.{kept-twice, still-read, each-held}
 use Rattle.command_run.proofs.OutputLaws.{nothing-then}
 
 -- inputs that are kept stay as they were read
@@ -25,12 +25,6 @@ holds-kept opened failed input no_file before between after kept held = held
 holds-kept opened failed input unreadable before between after kept held = held
 holds-kept opened failed input (text bytes) before between after kept held =
     (held.0, λ near. still-read input.slot input.limit input.name before between after (held.1 near) (kept input.slot))
-
-held-kept : (opened : ℕ) (failed : Option InSlot) (inputs : List Input) (contents : List Content) (before between after : Seen) → KeepsInputs between after → HoldEach opened failed inputs contents before between → HoldEach opened failed inputs contents before after
-held-kept opened failed [] [] before between after kept held = tt
-held-kept opened failed (input ∷ inputs) (content ∷ contents) before between after kept held =
-    (holds-kept opened failed input content before between after kept held.0, held-kept opened failed inputs contents before between after kept held.1)
-held-kept opened failed _ _ before between after kept held = held
 
 module _ {D S T : Type 0} (counts : D → Counts) (steady : D → Type 0) (seen : D → Seen) (text_of : T → Bytes) (faults : Faults S) (inputs : List Input) (outputs : List Name) (Calls : List Content → Outcome S → Type 0) (before between after : D) (answer : S) where
   failed-before : (u : Option InSlot) → CountsFaults counts steady between after → HasFailed counts steady u before between → HasFailed counts steady u before after
@@ -46,7 +40,10 @@ module _ {D S T : Type 0} (counts : D → Counts) (steady : D → Type 0) (seen 
     outcome = outcome;
     came = record {
       contents = came.contents;
-      held = held-kept outcome.opened outcome.unread inputs came.contents (seen before) (seen between) (seen after) puts.inputs came.held;
+      held = each-held outcome.opened outcome.unread (seen before) (seen between) (seen before) (seen after)
+          (λ one content. holds-kept outcome.opened outcome.unread one content
+          (seen before) (seen between) (seen after) puts.inputs)
+          inputs came.contents came.held;
       called = came.called;
       failed = failed-before outcome.unread puts.counted came.failed;
       from = came.from;

@@ -1,5 +1,5 @@
 -- What the steps of writing the outputs leave.
-use Rattle.std.proofs.Common.{◌≡◌, ◌⊎◌, ℕ, zero, suc, ◌+◌, ◌-◌, ◌<◌, ◌≤◌, List, [], ◌∷◌, ◌++◌, length, refl, sym, ap, subst, ◌∙◌, inl, inr, arith, take, drop, slice_index_or, map}
+use Rattle.std.proofs.Common.{◌≡◌, ◌≢◌, ◌⊎◌, ℕ, zero, suc, ◌+◌, ◌-◌, ◌<◌, ◌≤◌, List, [], ◌∷◌, ◌++◌, length, refl, sym, ap, subst, ◌∙◌, inl, inr, arith, take, drop, slice_index_or, map}
 use Rattle.std.specs.Prelude.{Option, Some, None, option_map, IsTrue, IsFalse, Bool, true, false, ◌==◌}
 use Rattle.std.proofs.Math.Nat.{eq-or-lt_of_le}
 use Rattle.std.proofs.lemmas.List.{append-nil, take_all, length-map}
@@ -119,7 +119,8 @@ out-positive Out0 = omega arith
 out-positive Out1 = omega arith
 out-positive Out2 = omega arith
 
-apart : (slot other : OutSlot) → (out_place other ≤ out_place slot - 1) ⊎ (out_place slot < out_place other) → output_place slot ≡ output_place other → ⊥
+apart : (slot other : OutSlot) → (out_place other ≤ out_place slot - 1) ⊎ (out_place slot < out_place other)
+    → output_place slot ≢ output_place other
 unfolding output_place
 apart Out0 Out0 (inl h) e = omega arith
 apart Out0 Out0 (inr h) e = omega arith

@@ -1,5 +1,5 @@
 -- What the steps of reading an input leave.
-use Rattle.std.proofs.Common.{◌≡◌, ◌⊎◌, ℕ, ◌+◌, ◌-◌, ◌<◌, ◌≤◌, [], Bool, true, false, refl, sym, ap, subst, ◌∙◌, inl, inr, arith, drop}
+use Rattle.std.proofs.Common.{◌≡◌, ◌≢◌, ◌⊎◌, ℕ, ◌+◌, ◌-◌, ◌<◌, ◌≤◌, [], Bool, true, false, refl, sym, ap, subst, ◌∙◌, inl, inr, arith, drop}
 use Rattle.std.specs.Prelude.{Option, Some, None, is_some, option_map, unwrap_or, IsTrue, IsFalse, if◌then◌else◌}
 use Rattle.std.proofs.lemmas.List.{take_all}
 use Rattle.std.specs.Option.{ForSome}
@@ -15,7 +15,8 @@ use Rattle.command_run.specs.Filled.{IsFed, FilledFrom}
 use Rattle.command_run.specs.Decision.{OnlyReads}
 
 -- a slot before or behind another is not that one
-pub apart : (slot other : InSlot) → (place other ≤ place slot - 1) ⊎ (place slot < place other) → input_place slot ≡ input_place other → ⊥
+pub apart : (slot other : InSlot) → (place other ≤ place slot - 1) ⊎ (place slot < place other)
+    → input_place slot ≢ input_place other
 unfolding input_place
 apart In0 In0 (inl h) e = omega arith
 apart In0 In0 (inr h) e = omega arith

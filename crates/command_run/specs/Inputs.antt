@@ -1,5 +1,5 @@
 -- What the inputs of a command hold, and the outcome that one of them decides.
-use Rattle.std.specs.Prelude.{◌≡◌, ◌≤◌, ℕ, List, [], ◌∷◌, map, Option, Some, None, Result, Ok, Err}
+use Rattle.std.specs.Prelude.{◌≡◌, ◌≤◌, ◌^◌, ℕ, List, [], ◌∷◌, map, Option, Some, None, Result, Ok, Err}
 use Rattle.std.specs.Option.{ForSome}
 use Rattle.std.specs.FinMap.{get}
 use Rattle.tdm_desk.specs.declared.slots.InSlot.{InSlot}
@@ -8,6 +8,10 @@ use Rattle.tdm_desk.specs.Seen.{Seen, files_of}
 use Rattle.command_run.specs.Slots.{place, WasRead}
 use Rattle.command_run.specs.Reports.{no_input_report, read_fault_report}
 use Rattle.command_run.specs.Outcome.{Faults, Outcome}
+
+-- no limit on a text is above this many bytes
+abbrev pub most_text_bytes : ℕ
+most_text_bytes = 2 ^ 30
 
 -- an input of a command: its slot, the name of its file, and the most bytes that its text may have
 pub record Input : Type 0 where

@@ -1,8 +1,8 @@
 //! Texts that are read, and texts that are written.
-ghost use Rattle.std.specs.Prelude.{◌≡◌, ◌≤◌, ◌+◌, ◌^◌, ◌++◌, [], List, ℕ, Result, length, take, IfOk, IfErr, OnOk, OnErr, IsTrue, IsErrOf};
+ghost use Rattle.std.specs.Prelude.{◌≡◌, ◌≤◌, ◌+◌, ◌++◌, [], List, ℕ, Result, length, take, IfOk, IfErr, OnOk, OnErr, IsTrue, IsErrOf};
 ghost use Rattle.tdm_desk.specs.Seen.{output_is_open, written, PrefixWritten};
 ghost use Rattle.tdm_desk.specs.Counts.{CountsFaults, CountsOnlyWriting, WritingFailed};
-ghost use Rattle.command_run.specs.Inputs.{TextKind};
+ghost use Rattle.command_run.specs.Inputs.{TextKind, most_text_bytes};
 ghost use Rattle.command_run.specs.Faulty.{IsFaultOf};
 
 use crate::status::RunStatus;
@@ -44,7 +44,7 @@ pub trait TextReader: Drop {
     /// The most bytes that a text may have. One that is longer is refused, whatever is behind one byte more.
     fn limit(&self) -> u64
         ensures same { result ≡ limit self.now }
-        ensures small { result ≤ 2 ^ 30 };
+        ensures small { result ≤ most_text_bytes };
 
     /// A text that is longer than the limit is refused, and cut one byte past the limit it says what the whole says.
     /// Nothing is done.

@@ -126,9 +126,14 @@ pub(crate) fn grow_from(
     ensures grown { IfOk result (IsGrowth graph.now
         (λ e. 2 * slice_index lengths.now.loads.now e + lengths.now.own) start terminals.now cap builder.new.wires) }
 {
+    // A copy of its own: the search may keep its fields at hand while it writes labels.
+    let near = Marginals {
+        loads: lengths.loads,
+        own: lengths.own,
+    };
     if terminals.len() > MOST_BOUNDED || !table.is_used() {
-        return builder.grow(graph, lengths, &mut NoBound, terminals, start, cap);
+        return builder.grow(graph, &near, &mut NoBound, terminals, start, cap);
     }
     let mut bounds = WayBounds::new(table, scale, terminals, start);
-    builder.grow(graph, lengths, &mut bounds, terminals, start, cap)
+    builder.grow(graph, &near, &mut bounds, terminals, start, cap)
 }

@@ -93,6 +93,9 @@ impl Table {
             self.turns_left -= 1;
             return Ok(());
         }
+        if self.scale >= WORN_IN_PASS {
+            return Ok(());
+        }
         self.renew_below(WORN_IN_PASS, graph, loads)?;
         Ok(())
     }

@@ -44,7 +44,7 @@ pub marks_gone : (before present : ℕ) (numbers : List ℕ) → before < presen
     → map (λ k. k == present) numbers ≡ replicate (length numbers) false
 marks_gone before present numbers later all =
     all_become (λ k. k == present) (λ k. k ≤ before) false
-        (λ k low. ne_eqb k present (λ same. omega (arith, same, low, later))) numbers all
+    (λ k low. ne_eqb k present (λ same. omega (arith, same, low, later))) numbers all
 
 pub not_later_more : (before stamp : ℕ) (ls : List Stamped) → before ≤ stamp → AreNotLater before ls → AreNotLater stamp ls
 not_later_more before stamp ls later all = All-weaker (λ l. l.stamp ≤ before) (λ l. l.stamp ≤ stamp) (λ l low. omega (arith, low, later)) ls all

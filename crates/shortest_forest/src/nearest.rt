@@ -118,13 +118,13 @@ fn reach<B: LowerBounds>(
         (IsReached (B.lower_bound bounds.now) cap fpga wire distance search.old search.new) }
     ensures marks { KeepsMarks search.old search.new }
 {
+    if distance >= cap {
+        return Ok(());
+    }
     if let Some(near) = search.distance(fpga) {
         if near <= distance {
             return Ok(());
         }
-    }
-    if distance >= cap {
-        return Ok(());
     }
     let bound = bounds.bound_of(fpga);
     if bound >= cap - distance {

@@ -89,13 +89,30 @@ fn better(
     requires paired { length s.now ≡ length problem.now.nets }
     ensures { IfOk result (λ found. IfSome found (IsBetter problem.now trees.now best)) }
 {
+    match proposed_halves(alloc, problem, incidence, trees, s, best, turns)? {
+        Some(halves) => checked(alloc, problem, trees, halves, best),
+        None => Ok(None),
+    }
+}
+
+/// The halves of ratios that a trade proposes, if it does not see that none are below `best`.
+fn proposed_halves(
+    alloc: Global,
+    problem: &Problem,
+    incidence: &Incidence,
+    trees: &Trees,
+    s: &[u64],
+    best: u128,
+    turns: u32,
+) -> Result<Option<Vec<u32>>, AllocError>
+    requires incidence { IsIncidenceOf problem.now incidence.now }
+    requires trees_for { AreTreesFor problem.now trees.now }
+    requires paired { length s.now ≡ length problem.now.nets }
+{
     let trader = Trader::new(alloc, problem, s)?;
     let rows = rows_of(alloc, trees)?;
     let goal = best.min(u128::from(u64::MAX)) as u64;
-    match trader.propose(problem, incidence, &rows, goal, turns)? {
-        Some(halves) => checked(alloc, problem, trees, &halves, best),
-        None => Ok(None),
-    }
+    trader.propose(alloc, problem, incidence, &rows, goal, turns)
 }
 
 /// The wires of each net, one net after another without gaps, since a trade goes over them many times.

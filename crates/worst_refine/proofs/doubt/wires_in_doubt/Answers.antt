@@ -1,4 +1,4 @@
-use Rattle.std.proofs.Common.{◌≡◌, ◌+◌, ◌<◌, ◌++◌, [], length, take, drop, sym, subst, ◌∙◌, arith}
+use Rattle.std.proofs.Common.{◌≡◌, ◌+◌, ◌++◌, [], length, take, drop, sym, subst, ◌∙◌, arith}
 use Rattle.std.specs.Prelude.{Bool, List}
 use Rattle.std.proofs.lemmas.List.{take_at}
 use Rattle.solution_eval.proofs.Counting.{positive_ratios}
