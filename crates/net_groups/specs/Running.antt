@@ -6,7 +6,8 @@ use Rattle.net_groups.specs.Incidence.{NetGroups, sum_before}
 -- the sums are those of all groups over all nets
 pub record AreSums (incidence : NetGroups) (routing : Routing) (sums : List ℕ) : Type 0 where
   pub count : length sums ≡ incidence.groups
-  pub each : (g : ℕ) → g < incidence.groups → slice_index sums g ≡ sum_before incidence routing (length incidence.of_nets) g
+  pub each : (g : ℕ) → g < incidence.groups
+      → slice_index sums g ≡ sum_before incidence routing (length incidence.of_nets) g
 
 -- group g has the largest sum, and each group before it a smaller one
 pub record IsWorst (sums : List ℕ) (g : ℕ) : Type 0 where

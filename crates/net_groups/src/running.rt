@@ -41,7 +41,8 @@ impl RunningSums {
     ) -> Result<RunningSums, AllocError>
         requires { length solution.now ≡ length incidence.now.of_nets }
         ensures sums { IfOk result (AreSums incidence.now solution.now) }
-        ensures board { IfOk result (λ sums. (board : Board) → IsBoard board → IsIncidenceOf board incidence.now
+        ensures board { IfOk result (λ sums. (board : Board) → IsBoard board
+            → IsIncidenceOf board incidence.now
             → sums ≡ map (group_sum solution.now) board.groups) }
     {
         prove!(incidence.groups() <= MAX_GROUPS);

@@ -28,7 +28,8 @@ impl Lengths for Marginals<'_> {
 pub(crate) fn capped_length(marginals: &Marginals, wires: &[u32]) -> u64
     requires there { All (λ e. e < length marginals.now.loads.now) wires.now }
     ensures capped { result ≤ 2 ^ 64 - 2 ^ 51 }
-    ensures within { result ≤ sum_by (λ e. 2 * slice_index marginals.now.loads.now e + marginals.now.own) wires.now }
+    ensures within { result ≤ sum_by (λ e. 2 * slice_index marginals.now.loads.now e + marginals.now.own)
+        wires.now }
     ensures exact { result < 2 ^ 64 - 2 ^ 51
         → result ≡ sum_by (λ e. 2 * slice_index marginals.now.loads.now e + marginals.now.own) wires.now }
 {

@@ -56,7 +56,8 @@ pub fn reroute(
     requires there { All (λ n. n < length problem.now.nets) picks.now }
     ensures rerouted { AreRerouted problem.now s.now picks.now trees.old trees.new }
     ensures passes { IfOk result (λ r. ArePasses problem.now s.now picks.now passes trees.old trees.new) }
-    ensures outcome { IfOk result (λ r. IsOutcome problem.now s.now picks.now passes trees.old trees.new r.settled r.phi) }
+    ensures outcome { IfOk result (λ r. IsOutcome problem.now s.now picks.now passes trees.old trees.new
+        r.settled r.phi) }
 {
     reroute_with(alloc, problem, graph, trees, s, picks, passes, THOROUGH)
 }
@@ -79,7 +80,8 @@ pub fn reroute_with(
     requires there { All (λ n. n < length problem.now.nets) picks.now }
     ensures rerouted { AreRerouted problem.now s.now picks.now trees.old trees.new }
     ensures passes { IfOk result (λ r. ArePasses problem.now s.now picks.now passes trees.old trees.new) }
-    ensures outcome { IfOk result (λ r. IsOutcome problem.now s.now picks.now passes trees.old trees.new r.settled r.phi) }
+    ensures outcome { IfOk result (λ r. IsOutcome problem.now s.now picks.now passes trees.old trees.new
+        r.settled r.phi) }
 {
     let mut loads = loads_of(alloc, problem, trees, s)?;
     let heavy = if effort.several_starts {
@@ -126,7 +128,8 @@ fn all_passes(
     requires table { IsTableAt (board_of graph.now) loads.old.items tools.old.table }
     ensures rerouted { AreRerouted problem.now numbers.now picks.now trees.old trees.new }
     ensures loads { OnOk result (AreLoads problem.now trees.new numbers.now loads.new.items) }
-    ensures settled { IfOk result (λ settled. settled ≡ true → IsSettled problem.now numbers.now picks.now trees.new) }
+    ensures settled { IfOk result (λ settled. settled ≡ true
+        → IsSettled problem.now numbers.now picks.now trees.new) }
     ensures rest { IfOk result (λ settled. settled ≡ true
         → ComesToRest problem.now numbers.now picks.now passes trees.old trees.new) }
     ensures falling { IfOk result (λ settled. settled ≡ false

@@ -251,7 +251,8 @@ fn write_row(distances: &mut Vec<u64>, search: &Search, place: usize, fpgas: u32
     requires small { All (λ d. d ≤ 2 ^ 51) distances.old.items }
     ensures size { length distances.new.items ≡ length distances.old.items }
     ensures small { All (λ d. d ≤ 2 ^ 51) distances.new.items }
-    ensures before { (i : ℕ) → i < place → slice_index distances.new.items i ≡ slice_index distances.old.items i }
+    ensures before { (i : ℕ) → i < place → slice_index distances.new.items i
+        ≡ slice_index distances.old.items i }
     ensures row { (f : ℕ) → f < fpgas → slice_index distances.new.items (place + f)
         ≡ row_entry (distance_in (label_at search.now f)) }
 {

@@ -51,7 +51,8 @@ pub(crate) fn turn(
     ensures moved { IfOk result (λ moved. moved ≡ true
         → load_cost problem.now trees.new numbers.now < load_cost problem.now trees.old numbers.now) }
     ensures kept { IfOk result (λ moved. moved ≡ false → trees.new ≡ trees.old) }
-    ensures settled { IfOk result (λ moved. moved ≡ false → IsSettledFor problem.now numbers.now n trees.new) }
+    ensures settled { IfOk result (λ moved. moved ≡ false
+        → IsSettledFor problem.now numbers.now n trees.new) }
 {
     let own = numbers[n as usize];
     let tree = trees.wires_of(n);
@@ -91,7 +92,8 @@ fn find_better(
     requires loads { AreLoads problem.now (without_net trees.now n) numbers.now loads.now }
     requires builder { tools.old.builder.fpgas ≡ graph.now.fpgas }
     requires table { IsTable (board_of graph.now) tools.old.table }
-    requires scaled { IsScaled tools.old.table tools.old.table.scale (λ e. 2 * load_of trees.now numbers.now e) }
+    requires scaled { IsScaled tools.old.table tools.old.table.scale
+        (λ e. 2 * load_of trees.now numbers.now e) }
     ensures builder { tools.new.builder.fpgas ≡ tools.old.builder.fpgas }
     ensures table { tools.new.table ≡ tools.old.table }
     ensures better { IfOk result (λ found. found ≡ true

@@ -30,14 +30,16 @@ pub(crate) fn walks_reach(
     requires covered { length graph.now.wires ≡ length lengths.now.loads.now }
     requires table { IsTable (board_of graph.now) table.now }
     requires part { scale ≤ 4096 }
-    requires scaled { IsScaled table.now scale (λ e. 2 * slice_index lengths.now.loads.now e + lengths.now.own) }
+    requires scaled { IsScaled table.now scale (λ e. 2 * slice_index lengths.now.loads.now e
+        + lengths.now.own) }
     requires some { 0 < length terminals.now }
     requires there { All (λ t. t < graph.now.fpgas) terminals.now }
     requires cap { cap ≤ 2 ^ 64 - 2 ^ 51 }
     requires builder { builder.old.fpgas ≡ graph.now.fpgas }
     ensures builder { builder.new.fpgas ≡ builder.old.fpgas }
     ensures reach { IfOk result (λ reach. reach ≡ true → IsWithinWalks (board_of graph.now)
-        (λ e. 2 * slice_index lengths.now.loads.now e + lengths.now.own) (slice_index terminals.now 0) terminals.now
+        (λ e. 2 * slice_index lengths.now.loads.now e + lengths.now.own) (slice_index terminals.now 0)
+        terminals.now
         cap) }
     ensures below { IfOk result (λ reach. reach ≡ true → cap < 2 ^ 64 - 2 ^ 51) }
 {
@@ -73,7 +75,8 @@ fn bound_sum(table: &Table, scale: u64, terminals: &[u32], cap: u64) -> u64
     requires some { 0 < length terminals.now }
     requires there { All (λ t. t < table.now.fpgas) terminals.now }
     ensures capped { result ≤ cap }
-    ensures within { result ≤ sum_by (λ t. bound_at table.now scale t (slice_index terminals.now 0)) terminals.now }
+    ensures within { result ≤ sum_by (λ t. bound_at table.now scale t (slice_index terminals.now 0))
+        terminals.now }
     ensures exact { result < cap
         → result ≡ sum_by (λ t. bound_at table.now scale t (slice_index terminals.now 0)) terminals.now }
 {
@@ -105,16 +108,19 @@ fn least_sum(
     requires table { IsTable (board_of graph.now) table.now }
     requires used { 0 < length table.now.distances.items }
     requires part { scale ≤ 4096 }
-    requires scaled { IsScaled table.now scale (λ e. 2 * slice_index lengths.now.loads.now e + lengths.now.own) }
+    requires scaled { IsScaled table.now scale (λ e. 2 * slice_index lengths.now.loads.now e
+        + lengths.now.own) }
     requires some { 0 < length terminals.now }
     requires there { All (λ t. t < graph.now.fpgas) terminals.now }
-    requires sum { sum ≡ sum_by (λ t. bound_at table.now scale t (slice_index terminals.now 0)) terminals.now }
+    requires sum { sum ≡ sum_by (λ t. bound_at table.now scale t (slice_index terminals.now 0))
+        terminals.now }
     requires below { sum < cap }
     requires cap { cap ≤ 2 ^ 64 - 2 ^ 51 }
     requires builder { builder.old.fpgas ≡ graph.now.fpgas }
     ensures builder { builder.new.fpgas ≡ builder.old.fpgas }
     ensures least { IfOk result (IsWithinWalks (board_of graph.now)
-        (λ e. 2 * slice_index lengths.now.loads.now e + lengths.now.own) (slice_index terminals.now 0) terminals.now) }
+        (λ e. 2 * slice_index lengths.now.loads.now e + lengths.now.own) (slice_index terminals.now 0)
+        terminals.now) }
 {
     let first = terminals[0];
     let mut known = 0;
@@ -182,14 +188,16 @@ fn distance_within(
     requires table { IsTable (board_of graph.now) table.now }
     requires used { 0 < length table.now.distances.items }
     requires part { scale ≤ 4096 }
-    requires scaled { IsScaled table.now scale (λ e. 2 * slice_index lengths.now.loads.now e + lengths.now.own) }
+    requires scaled { IsScaled table.now scale (λ e. 2 * slice_index lengths.now.loads.now e
+        + lengths.now.own) }
     requires a { a < graph.now.fpgas }
     requires b { b < graph.now.fpgas }
     requires cap { cap ≤ 2 ^ 64 - 2 ^ 51 }
     requires builder { builder.old.fpgas ≡ graph.now.fpgas }
     ensures builder { builder.new.fpgas ≡ builder.old.fpgas }
     ensures capped { IfOk result (λ least. least ≤ cap) }
-    ensures least { IfOk result (λ least. (es : List ℕ) → IsWalk (board_of graph.now) (AnyWire (board_of graph.now)) a es b
+    ensures least { IfOk result (λ least. (es : List ℕ)
+        → IsWalk (board_of graph.now) (AnyWire (board_of graph.now)) a es b
         → least ≤ length_of (λ e. 2 * slice_index lengths.now.loads.now e + lengths.now.own) es) }
 {
     if first_wires_reach(graph, lengths, table, scale, a, b, cap) {

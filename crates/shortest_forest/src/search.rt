@@ -80,7 +80,8 @@ impl Search {
     /// memory the search is as it was.
     pub fn add_source(&mut self, f: u32) -> Result<(), AllocError>
         requires { f < length self.old.labels }
-        ensures labels { OnOk result (self.new.labels ≡ slice_set self.old.labels f (Some (record { distance = 0; wire = None }))) }
+        ensures labels { OnOk result (self.new.labels
+            ≡ slice_set self.old.labels f (Some (record { distance = 0; wire = None }))) }
         ensures goals { self.new.goals ≡ self.old.goals }
         ensures count { length self.new.labels ≡ length self.old.labels }
         ensures queue { OnOk result (IsPermutation (record { 0 = (0, f) } ∷ self.old.queue) self.new.queue) }

@@ -17,7 +17,8 @@ pub trait TreeBounds: LowerBounds {
         ensures rising { (f : ℕ) → Self.lower_bound self.old f ≤ Self.lower_bound self.new f }
         ensures still_true { (board : Board) (wire_length : ℕ → ℕ) (old new : List Bool)
             → are_true self.old board wire_length old
-            → ((g : ℕ) → IsGoal new g → IsGoal old g × (g ≢ terminal)) → are_true self.new board wire_length new };
+            → ((g : ℕ) → IsGoal new g → IsGoal old g × (g ≢ terminal))
+            → are_true self.new board wire_length new };
 
     /// Where they are true, no walk to a goal is shorter than the bound of the FPGA where it begins.
     ghost below: { (bounds : Self) (board : Board) (wire_length : ℕ → ℕ) (goals : List Bool)

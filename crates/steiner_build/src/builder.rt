@@ -89,7 +89,8 @@ impl TreeBuilder {
         requires start { Contains terminals.now start }
         requires cap { cap ≤ 2 ^ 64 - 2 ^ 51 }
         ensures fpgas { self.new.fpgas ≡ self.old.fpgas }
-        ensures minimal { IfOk result (λ grown. IfSome grown (λ _. (board : Board) → graph.now ≡ graph_of board
+        ensures minimal { IfOk result (λ grown. IfSome grown (λ _. (board : Board)
+            → graph.now ≡ graph_of board
             → IsMinimalTree board self.new.wires terminals.now)) }
         ensures rising { IfOk result (λ grown. IfSome grown (λ _. IsStrictlyIncreasing self.new.wires)) }
         ensures inside { IfOk result (λ grown. IfSome grown (λ _. All (λ e. e < length graph.now.wires)
@@ -150,7 +151,8 @@ pub fn build<Q: Lengths>(
         terminals.now (length_of (Q.length lengths.now) wires.items)) }
     ensures connectable { IfOk result (λ _. (board : Board) → graph.now ≡ graph_of board
         → IsConnectable board terminals.now) }
-    ensures apart { IfErr result (λ fault. fault ≡ NotConnectable → (board : Board) → graph.now ≡ graph_of board
+    ensures apart { IfErr result (λ fault. fault ≡ NotConnectable → (board : Board)
+        → graph.now ≡ graph_of board
         → ¬ IsConnectable board terminals.now) }
 {
     let _fpgas = graph.fpgas();

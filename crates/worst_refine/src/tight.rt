@@ -90,7 +90,8 @@ fn tighten_net(
     ensures size { length counts.new ≡ length counts.old }
     ensures fitting { HasFittingRatios (length counts.old) solution.new }
     ensures lowered { IsLowered solution.old solution.new }
-    ensures step { OnOk result (IsStep (length counts.old) doubtful.now solution.old solution.new counts.new n 0
+    ensures step { OnOk result (IsStep (length counts.old) doubtful.now solution.old solution.new counts.new n
+        0
         (length (uses_of solution.old n))) }
 {
     let places = solution.uses(n).len() as u32;

@@ -40,7 +40,8 @@ fn five_nets(alloc: Global) -> Result<Problem, AllocError>
 fn on_wire_0(alloc: Global, ratios: &[u32]) -> Result<Solution, AllocError>
     requires few { length ratios.now ≤ 5 }
     requires small { All (λ ratio. ratio ≤ 4294967294) ratios.now }
-    ensures solution { IfOk result (λ s. s ≡ map (λ ratio. record { wire = 0; ratio = ratio } ∷ []) ratios.now) }
+    ensures solution { IfOk result (λ s. s ≡ map (λ ratio. record { wire = 0; ratio = ratio } ∷ [])
+        ratios.now) }
     ensures small { IfOk result HasSmallRatios }
 {
     let mut solution = Solution::new(alloc);

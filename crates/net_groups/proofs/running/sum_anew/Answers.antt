@@ -5,7 +5,12 @@ use Rattle.net_groups.proofs.running.sum_anew.Goals as goal
 
 pub add_to-requires-clause-distinct : goal.add_to-requires-clause-distinct
 add_to-requires-clause-distinct c i j d before there same =
-    omega (arith, same, AllPairs-from_increasing c.groups_of.result.now c.groups_of.ensures.row.rising i j d before there)
+    omega (
+      arith,
+      same,
+      AllPairs-from_increasing c.groups_of.result.now c.groups_of.ensures.row.rising i j d
+          before there,
+    )
 
 pub add_to-requires-clause-room : goal.add_to-requires-clause-room
 add_to-requires-clause-room c k d there =

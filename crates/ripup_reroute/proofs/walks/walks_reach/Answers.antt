@@ -8,8 +8,12 @@ use Rattle.ripup_reroute.proofs.walks.walks_reach.Goals as goal
 
 pub returns-then-sum-cap-clause-reach : goal.returns-then-sum-cap-clause-reach
 returns-then-sum-cap-clause-reach c _ =
-    bounds-within (board_of c.args.graph.now) (λ e. 2 * slice_index c.args.lengths.now.loads.now e + c.args.lengths.now.own) (slice_index c.args.terminals.now 0) c.args.terminals.now (λ t. bound_at c.args.table.now c.args.scale t (slice_index c.args.terminals.now 0))
-    (table-bounds (board_of c.args.graph.now) c.args.table.now c.args.scale (λ e. 2 * slice_index c.args.lengths.now.loads.now e + c.args.lengths.now.own) c.requires.table c.requires.scaled (slice_index c.args.terminals.now 0) c.args.terminals.now c.requires.there)
+    bounds-within (board_of c.args.graph.now) (λ e. 2 * slice_index c.args.lengths.now.loads.now e
+    + c.args.lengths.now.own) (slice_index c.args.terminals.now 0) c.args.terminals.now
+    (λ t. bound_at c.args.table.now c.args.scale t (slice_index c.args.terminals.now 0))
+    (table-bounds (board_of c.args.graph.now) c.args.table.now c.args.scale
+    (λ e. 2 * slice_index c.args.lengths.now.loads.now e + c.args.lengths.now.own) c.requires.table
+    c.requires.scaled (slice_index c.args.terminals.now 0) c.args.terminals.now c.requires.there)
     c.args.cap (omega (arith, c.bound_sum-sum.ensures.within, c.if-sum-cap.true))
 
 pub returns-then-pair-clause-reach : goal.returns-then-pair-clause-reach
