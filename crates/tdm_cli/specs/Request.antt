@@ -3,7 +3,7 @@ use Rattle.std.specs.Prelude.{ℕ, List, [], ◌∷◌}
 use Rattle.tdm_desk.specs.Files.{Name}
 use Rattle.command_run.specs.Inputs.{Input}
 use Rattle.tdm_cli.specs.Words.{IsRoute, IsEval, IsCheck, IsGen, IsDemo, IsCommand}
-use Rattle.tdm_cli.specs.Kinds.{board_input, second_input}
+use Rattle.tdm_cli.specs.Kinds.{board_input, solution_input, cert_input}
 
 -- a command with the names of its files and its numbers, or none
 pub data Request : Type 0 where
@@ -26,8 +26,8 @@ Asks words nothing = ¬ IsCommand words
 -- its inputs, in order
 abbrev pub inputs_of : Request → List Input
 inputs_of (route board solution cert rounds) = board_input board ∷ []
-inputs_of (eval board solution) = board_input board ∷ second_input solution ∷ []
-inputs_of (check board cert) = board_input board ∷ second_input cert ∷ []
+inputs_of (eval board solution) = board_input board ∷ solution_input solution ∷ []
+inputs_of (check board cert) = board_input board ∷ cert_input cert ∷ []
 inputs_of (gen fpgas nets groups board) = []
 inputs_of (demo fpgas nets groups solution cert) = []
 inputs_of nothing = []

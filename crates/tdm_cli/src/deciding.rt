@@ -4,7 +4,7 @@ ghost use Rattle.tdm_desk.specs.declared.slots.InSlot.TheVariants.{In0};
 ghost use Rattle.command_run.specs.Inputs.{ByInput, ByNone};
 ghost use Rattle.command_run.specs.Decision.{Decides};
 ghost use Rattle.tdm_cli.specs.Texts.{text_of};
-ghost use Rattle.tdm_cli.specs.Kinds.{faults, boards, board_input, second_input};
+ghost use Rattle.tdm_cli.specs.Kinds.{faults, boards, board_input, solution_input, cert_input};
 ghost use Rattle.tdm_cli.specs.Outcomes.{Routes, JudgesNext, ChecksNext};
 
 use crate::check::check;
@@ -41,7 +41,7 @@ fn decide_judging<D: Desk>(
     problem: &Problem,
     solution: &str,
 ) -> Decision<Status, Output>
-    ensures { Decides D.counts D.steady D.seen text_of faults 1 (second_input solution.now ∷ [])
+    ensures { Decides D.counts D.steady D.seen text_of faults 1 (solution_input solution.now ∷ [])
         (JudgesNext problem.now) desk.old desk.new result }
 {
     let reader = SolutionText::new(alloc, problem);
@@ -59,7 +59,7 @@ pub fn decide_eval<D: Desk>(
     solution: &str,
 ) -> Decision<Status, Output>
     ensures { Decides D.counts D.steady D.seen text_of faults 0
-        (board_input board.now ∷ second_input solution.now ∷ [])
+        (board_input board.now ∷ solution_input solution.now ∷ [])
         (ByInput faults In0 boards JudgesNext) desk.old desk.new result }
 {
     match read_input(alloc, desk, InSlot::In0, board, BoardText::new(alloc)) {
@@ -75,7 +75,7 @@ fn decide_checking<D: Desk>(
     problem: &Problem,
     cert: &str,
 ) -> Decision<Status, Output>
-    ensures { Decides D.counts D.steady D.seen text_of faults 1 (second_input cert.now ∷ [])
+    ensures { Decides D.counts D.steady D.seen text_of faults 1 (cert_input cert.now ∷ [])
         (ChecksNext problem.now) desk.old desk.new result }
 {
     let reader = CertText::new(alloc, problem);
@@ -93,7 +93,7 @@ pub fn decide_check<D: Desk>(
     cert: &str,
 ) -> Decision<Status, Output>
     ensures { Decides D.counts D.steady D.seen text_of faults 0
-        (board_input board.now ∷ second_input cert.now ∷ [])
+        (board_input board.now ∷ cert_input cert.now ∷ [])
         (ByInput faults In0 boards ChecksNext) desk.old desk.new result }
 {
     match read_input(alloc, desk, InSlot::In0, board, BoardText::new(alloc)) {
