@@ -116,11 +116,11 @@ routing-one board status.Ok status.Ok h k = refl
 routing-one board status.Ok _ h k = absurd k
 routing-one board _ t h k = absurd h
 
-yes-or-no-one : (Holds : Type 0) (yes no : Status) → OneStatus (YesOrNo Holds yes no)
-yes-or-no-one Holds yes no s t (inl h) (inl k) = h.0 ∙ sym k.0
-yes-or-no-one Holds yes no s t (inl h) (inr k) = absurd (k.1 h.1)
-yes-or-no-one Holds yes no s t (inr h) (inl k) = absurd (h.1 k.1)
-yes-or-no-one Holds yes no s t (inr h) (inr k) = h.0 ∙ sym k.0
+yes-or-no-one : (Holds : Type 0) (so otherwise : Status) → OneStatus (YesOrNo Holds so otherwise)
+yes-or-no-one Holds so otherwise s t (inl h) (inl k) = h.0 ∙ sym k.0
+yes-or-no-one Holds so otherwise s t (inl h) (inr k) = absurd (k.1 h.1)
+yes-or-no-one Holds so otherwise s t (inr h) (inl k) = absurd (h.1 k.1)
+yes-or-no-one Holds so otherwise s t (inr h) (inr k) = h.0 ∙ sym k.0
 
 showing-one : (board : Board) → OneStatus (ShowingFor board)
 showing-one board status.UseLimit status.UseLimit h k = refl

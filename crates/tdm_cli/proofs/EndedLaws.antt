@@ -4,7 +4,7 @@ use Rattle.std.specs.Prelude.{Option, Some, None}
 use Rattle.tdm_desk.specs.declared.slots.InSlot.{InSlot}
 use Rattle.tdm_desk.specs.Files.{Files}
 use Rattle.tdm_desk.specs.Seen.{Seen, files_of}
-use Rattle.tdm_desk.specs.Counts.{Counts, ReadingFailed, WritingFailed, read_counted, read_faults, write_faults, with_read_faults}
+use Rattle.tdm_desk.specs.Counts.{Counts, WritingFailed, read_counted, read_faults, write_faults, with_read_faults}
 use Rattle.command_run.specs.Slots.{place, KeepsOutputsBehind, AreClosed}
 use Rattle.command_run.specs.Outcome.{Outcome, with_unread}
 use Rattle.command_run.specs.Inputs.{HoldEach, contents_in, unread}

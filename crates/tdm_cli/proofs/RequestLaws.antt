@@ -1,5 +1,6 @@
 -- Words ask for one request, and what is known of it.
-use Rattle.std.proofs.Common.{◌≡◌, ◌⊎◌, ℕ, ◌≤◌, List, [], ◌∷◌, length, refl, sym, ap, subst, ◌∙◌, inl, inr, arith, codes, take, drop, map}
+use Rattle.std.proofs.Common.{◌≡◌, ◌⊎◌, ℕ, ◌≤◌, List, [], ◌∷◌, length, refl, sym, ap, subst, ◌∙◌, inl, inr, arith, codes}
+use Rattle.std.specs.Prelude.{Option, Some, None, IfSome, IfNone}
 use Rattle.tdm_desk.specs.Files.{Name}
 use Rattle.tdm_desk.specs.Seen.{Seen}
 use Rattle.tdm_desk.specs.Counts.{Counts}
@@ -13,8 +14,10 @@ use Rattle.command_run.proofs.EndsLaws.{run-ends}
 use Rattle.command_run.proofs.StatusLaws.{has-room}
 use Rattle.tdm_cli.specs.declared.status.Status.{Status}
 use Rattle.tdm_cli.specs.declared.status.Status.TheVariants as status
-use Rattle.tdm_cli.specs.Words.{IsCommand, is_route, is_eval, is_check, is_gen, is_demo}
-use Rattle.tdm_cli.specs.Request.{Request, route, eval, check, gen, demo, nothing, Asks, inputs_of, outputs_of}
+use Rattle.tdm_cli.specs.declared.command.Command.{Command}
+use Rattle.tdm_cli.specs.declared.command.Command.TheVariants.{Route, Eval, Check, Gen, Demo}
+use Rattle.tdm_cli.specs.Words.{RequestIs, IsCommand, is_route, is_eval, is_check, is_gen, is_demo}
+use Rattle.tdm_cli.specs.Request.{Request, route, eval, check, gen, demo, nothing, Asks, request_of, inputs_of, outputs_of}
 use Rattle.tdm_cli.specs.declared.writing.Output.{Output}
 use Rattle.tdm_cli.specs.Kinds.{faults}
 use Rattle.tdm_cli.specs.Texts.{text_of}
@@ -71,6 +74,17 @@ pub nothing-asked : (words : List Name) (request : Request) → Asks words reque
 nothing-asked words nothing asks none = asks
 nothing-asked words _ asks none = absurd none
 
+-- what was found of the words is what they ask for
+pub asks-found : (words : List Name) (found : Option Command) → IfSome found (RequestIs words)
+    → IfNone found (¬ IsCommand words)
+    → Asks words (request_of found)
+asks-found words (Some (Route board solution cert rounds)) is none = is
+asks-found words (Some (Eval board solution)) is none = is
+asks-found words (Some (Check board cert)) is none = is
+asks-found words (Some (Gen fpgas nets groups board)) is none = is
+asks-found words (Some (Demo fpgas nets groups solution cert)) is none = is
+asks-found words None is none = none
+
 -- no outcome has more texts than the request has outputs
 few-texts : (request : Request) (contents : List Content) (outcome : Outcome Status)
     → CallsFor request contents outcome → length outcome.texts ≤ length (outputs_of request)
@@ -83,16 +97,6 @@ few-texts request contents outcome calls = by (fair request contents outcome cal
         texts : (outcome.status ≡ status.Ok) ⊎ (outcome.texts ≡ []) → length outcome.texts ≤ length (outputs_of request)
         texts (inl ok) = omega (arith, decided.written ok)
         texts (inr none) = subst (λ ts. length ts ≤ length (outputs_of request)) (sym none) (omega arith)
-
--- the two words behind the first two
-pub names-behind : {A : Type 0} (f : A → Name) (words : List A) (a b c d : Name) (rest : List Name) → map f words ≡ a ∷ b ∷ c ∷ d ∷ rest → map f (take 2 (drop 2 words)) ≡ c ∷ d ∷ []
-names-behind f (w ∷ x ∷ y ∷ z ∷ words) a b c d rest e = cc
-names-behind f _ a b c d rest e = cc
-
--- the words behind the first four
-pub names-last : {A : Type 0} (f : A → Name) (words : List A) (a b c d : Name) (rest : List Name) → map f words ≡ a ∷ b ∷ c ∷ d ∷ rest → map f (drop 4 words) ≡ rest
-names-last f (w ∷ x ∷ y ∷ z ∷ words) a b c d rest e = cc
-names-last f _ a b c d rest e = cc
 
 few-outputs : (request : Request) → length (outputs_of request) ≤ 3
 few-outputs (route board solution cert rounds) = omega arith

@@ -38,8 +38,8 @@ RoutingFor board status.Ok = AllConnectable board × IsWithinUseLimit board
 RoutingFor board _ = ⊥
 
 -- one status where it holds, and another where it does not
-abbrev pub YesOrNo : (Holds : Type 0) → (yes no answer : Status) → Type 0
-YesOrNo Holds yes no answer = ((answer ≡ yes) × Holds) ⊎ ((answer ≡ no) × ¬ Holds)
+abbrev pub YesOrNo : (Holds : Type 0) → (so otherwise answer : Status) → Type 0
+YesOrNo Holds so otherwise answer = ((answer ≡ so) × Holds) ⊎ ((answer ≡ otherwise) × ¬ Holds)
 
 -- a solution is legal or not
 abbrev pub JudgingFor : Board → Routing → Status → Type 0

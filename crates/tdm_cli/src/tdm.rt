@@ -1,12 +1,12 @@
 //! The top call.
-ghost use Rattle.std.specs.Prelude.{◌≡◌, ◌≢◌, ◌≤◌, [], length, take, drop, map, string_bytes, Some};
+ghost use Rattle.std.specs.Prelude.{◌≡◌, ◌≢◌, map, string_bytes, Some};
 ghost use Rattle.tdm_desk.specs.Files.{Files};
 ghost use Rattle.tdm_desk.specs.Seen.{files_of};
 ghost use Rattle.tdm_desk.specs.Counts.{CountsFaults, WritingFailed};
 ghost use Rattle.command_run.specs.Ends.{RunEnds};
 ghost use Rattle.tdm_cli.specs.Words.{IsCommand};
 ghost use Rattle.tdm_cli.specs.Kinds.{faults};
-ghost use Rattle.tdm_cli.specs.Request.{Request, Asks, inputs_of, outputs_of};
+ghost use Rattle.tdm_cli.specs.Request.{Request, Asks, request_of, inputs_of, outputs_of};
 ghost use Rattle.tdm_cli.specs.Outcomes.{CallsFor};
 ghost use Rattle.tdm_cli.specs.Ended.{IsAsCalled, TouchesOnly, IsFinished, TellsFaults, ReportsReadFault};
 ghost use Rattle.tdm_cli.specs.Promises.{IsWorth, BoundsHold};
@@ -14,29 +14,25 @@ ghost use Rattle.tdm_cli.specs.declared.status.Status.{Status};
 ghost use Rattle.tdm_cli.specs.declared.status.Status.TheVariants.{Ok, Usage, ReadFault, WriteFault};
 
 use crate::command::{Command, parse};
-use crate::deciding::{decide_check, decide_eval, decide_route};
-use crate::demo::demo;
-use crate::generate::generate;
-use crate::outcome::refused;
+use crate::deciding::decide;
 use crate::status::Status;
-use command_run::{conclude, decided};
+use command_run::conclude;
 use std::alloc::Global;
 use tdm_desk::Desk;
 
-/// The words that name the outputs of `route`.
-fn output_names(words: &[String]) -> &[String]
-    requires { 4 ≤ length words.now }
-    ensures { result.now ≡ take 2 (drop 2 words.now) }
+/// The words that name the outputs of a command, in order.
+fn output_names<'a>(command: &Option<Command<'_>>, words: &'a [String]) -> &'a [String]
+    requires { Asks (map string_bytes words.now) (request_of command.now) }
+    ensures { map string_bytes result.now ≡ outputs_of (request_of command.now) }
 {
-    &words[2..4]
-}
-
-/// The words that name the outputs of `gen` and of `demo`.
-fn names_behind_numbers(words: &[String]) -> &[String]
-    requires { 4 ≤ length words.now }
-    ensures { result.now ≡ drop 4 words.now }
-{
-    &words[4..]
+    match command {
+        Some(Command::Route { .. }) => &words[2..4],
+        Some(Command::Gen { .. }) => &words[4..],
+        Some(Command::Demo { .. }) => &words[4..],
+        Some(Command::Eval { .. }) => &words[..0],
+        Some(Command::Check { .. }) => &words[..0],
+        None => &words[..0],
+    }
 }
 
 /// Does what the words ask for, and says a report.
@@ -46,43 +42,10 @@ fn run_words<D: Desk>(alloc: Global, desk: &mut D, words: &[String]) -> Status
         desk.old desk.new result }
     ensures counted { CountsFaults D.counts D.steady desk.old desk.new }
 {
-    match parse(words) {
-        Some(Command::Route { board, rounds, .. }) => {
-            let decision = decide_route(alloc, desk, board, rounds);
-            conclude(alloc, desk, decision, output_names(words))
-        }
-        Some(Command::Eval { board, solution }) => {
-            let decision = decide_eval(alloc, desk, board, solution);
-            conclude(alloc, desk, decision, &[])
-        }
-        Some(Command::Check { board, cert }) => {
-            let decision = decide_check(alloc, desk, board, cert);
-            conclude(alloc, desk, decision, &[])
-        }
-        Some(
-            Command::Gen {
-                fpgas,
-                nets,
-                groups,
-                ..
-            },
-        ) => {
-            let decision = decided(generate(alloc, fpgas, nets, groups));
-            conclude(alloc, desk, decision, names_behind_numbers(words))
-        }
-        Some(
-            Command::Demo {
-                fpgas,
-                nets,
-                groups,
-                ..
-            },
-        ) => {
-            let decision = decided(demo(alloc, fpgas, nets, groups));
-            conclude(alloc, desk, decision, names_behind_numbers(words))
-        }
-        None => conclude(alloc, desk, decided(refused(alloc)), &[]),
-    }
+    let command = parse(words);
+    let outputs = output_names(&command, words);
+    let decision = decide(alloc, desk, &command);
+    conclude(alloc, desk, decision, outputs)
 }
 
 /// Does what the words of a command line ask for, without the program's own name, over any desk, says a
