@@ -1,5 +1,5 @@
 -- The status that the files call for is the one of each outcome that they call for, and there is one alone.
-use Rattle.std.proofs.Common.{◌≡◌, ℕ, ◌<◌, List, [], ◌∷◌, length, refl, sym, ap, subst, ◌∙◌, arith, Contains}
+use Rattle.std.proofs.Common.{◌≡◌, ℕ, ◌<◌, List, [], ◌∷◌, length, refl, sym, ap, subst, ◌∙◌, inl, inr, arith, Contains}
 use Rattle.std.specs.Prelude.{Option, Some, None, Result, Ok, Err}
 use Rattle.std.specs.FinMap.{get}
 use Rattle.tdm_desk.specs.declared.slots.InSlot.{InSlot}
@@ -13,6 +13,7 @@ use Rattle.solution_eval.specs.Verdict.{IsVerdict, SaysLegal}
 use Rattle.tdm_problem.specs.Legal.{IsLegal}
 use Rattle.board_generator.specs.Generated.{generated}
 use Rattle.bound_cert.specs.Certificate.{Cert}
+use Rattle.bound_cert.specs.Valid.{IsValid}
 use Rattle.cert_checker.specs.declared.answer.CheckAnswer.{CheckAnswer}
 use Rattle.cert_checker.specs.declared.answer.CheckAnswer.TheVariants.{Accepted, Rejected}
 use Rattle.cert_checker.specs.Answer.{IsAnswer}
@@ -24,7 +25,7 @@ use Rattle.tdm_cli.specs.declared.status.Status.TheVariants as status
 use Rattle.tdm_cli.specs.Kinds.{faults, boards, solutions, certificates}
 use Rattle.tdm_cli.specs.Request.{Request, route, eval, check, gen, demo, nothing, inputs_of}
 use Rattle.tdm_cli.specs.Outcomes.{Routes, is_unconnectable, is_over_limit, is_routed, status_of_verdict, Judges, status_of_answer, Checks, Demonstrates, is_too_large, is_shown, CallsFor}
-use Rattle.tdm_cli.specs.Asked.{SaidFor, FileFor, RoutingFor, JudgingFor, CheckingFor, ShowingFor, StatusFor}
+use Rattle.tdm_cli.specs.Asked.{SaidFor, FileFor, RoutingFor, YesOrNo, JudgingFor, CheckingFor, ShowingFor, StatusFor}
 
 -- ---- each outcome that is called for has the status that the files call for
 
@@ -53,17 +54,17 @@ judging-for : (board : Board) (routing : Routing) (outcome : Outcome Status) →
 judging-for board routing outcome judges = subst (λ (o : Outcome Status). JudgingFor board routing o.status) (sym judges.is) (by judges.verdict judges.right judges.legal.1)
   where
     by : (verdict : Verdict) → IsVerdict board routing verdict → (IsLegal board routing → SaysLegal verdict) → JudgingFor board routing (status_of_verdict verdict)
-    by (Legal value) right legal = right.0
-    by (NotJoined net) right legal = legal
-    by (BadRatio net wire ratio) right legal = legal
-    by (Overfull wire) right legal = legal
+    by (Legal value) right legal = inl (refl, right.0)
+    by (NotJoined net) right legal = inr (refl, legal)
+    by (BadRatio net wire ratio) right legal = inr (refl, legal)
+    by (Overfull wire) right legal = inr (refl, legal)
 
 checking-for : (board : Board) (cert : Cert) (outcome : Outcome Status) → Checks board cert outcome → CheckingFor board cert outcome.status
 checking-for board cert outcome checks = subst (λ (o : Outcome Status). CheckingFor board cert o.status) (sym checks.is) (by checks.answer checks.right)
   where
     by : (answer : CheckAnswer) → IsAnswer board cert answer → CheckingFor board cert (status_of_answer answer)
-    by (Accepted bound) right = right.0
-    by (Rejected pair) right = first_not_valid board cert pair right
+    by (Accepted bound) right = inl (refl, right.0)
+    by (Rejected pair) right = inr (refl, first_not_valid board cert pair right)
 
 showing-for : (fpgas nets groups : ℕ) (outcome : Outcome Status) → Demonstrates fpgas nets groups outcome → ShowingFor (generated fpgas nets groups) outcome.status
 showing-for fpgas nets groups outcome (is_too_large over is) = subst (λ (o : Outcome Status). ShowingFor (generated fpgas nets groups) o.status) (sym is) over
@@ -115,23 +116,11 @@ routing-one board status.Ok status.Ok h k = refl
 routing-one board status.Ok _ h k = absurd k
 routing-one board _ t h k = absurd h
 
-judging-one : (board : Board) (routing : Routing) → OneStatus (JudgingFor board routing)
-judging-one board routing status.Ok status.Ok h k = refl
-judging-one board routing status.Ok status.Illegal h k = absurd (k h)
-judging-one board routing status.Ok _ h k = absurd k
-judging-one board routing status.Illegal status.Ok h k = absurd (h k)
-judging-one board routing status.Illegal status.Illegal h k = refl
-judging-one board routing status.Illegal _ h k = absurd k
-judging-one board routing _ t h k = absurd h
-
-checking-one : (board : Board) (cert : Cert) → OneStatus (CheckingFor board cert)
-checking-one board cert status.Ok status.Ok h k = refl
-checking-one board cert status.Ok status.CertRejected h k = absurd (k h)
-checking-one board cert status.Ok _ h k = absurd k
-checking-one board cert status.CertRejected status.Ok h k = absurd (h k)
-checking-one board cert status.CertRejected status.CertRejected h k = refl
-checking-one board cert status.CertRejected _ h k = absurd k
-checking-one board cert _ t h k = absurd h
+yes-or-no-one : (Holds : Type 0) (so otherwise : Status) → OneStatus (YesOrNo Holds so otherwise)
+yes-or-no-one Holds so otherwise s t (inl h) (inl k) = h.0 ∙ sym k.0
+yes-or-no-one Holds so otherwise s t (inl h) (inr k) = absurd (k.1 h.1)
+yes-or-no-one Holds so otherwise s t (inr h) (inl k) = absurd (h.1 k.1)
+yes-or-no-one Holds so otherwise s t (inr h) (inr k) = h.0 ∙ sym k.0
 
 showing-one : (board : Board) → OneStatus (ShowingFor board)
 showing-one board status.UseLimit status.UseLimit h k = refl
@@ -145,9 +134,13 @@ showing-one board _ t h k = absurd h
 pub status-one : (request : Request) (files : Files) → OneStatus (StatusFor request files)
 status-one (route board solution cert rounds) files = file-one boards RoutingFor routing-one (get files board)
 status-one (eval board solution) files =
-    file-one boards _ (λ problem. file-one (solutions problem) (JudgingFor problem) (judging-one problem) (get files solution)) (get files board)
+    file-one boards _ (λ problem. file-one (solutions problem) (JudgingFor problem)
+    (λ routing. yes-or-no-one (IsLegal problem routing) status.Ok status.Illegal) (get files solution))
+    (get files board)
 status-one (check board cert) files =
-    file-one boards _ (λ problem. file-one (certificates problem) (CheckingFor problem) (checking-one problem) (get files cert)) (get files board)
+    file-one boards _ (λ problem. file-one (certificates problem) (CheckingFor problem)
+    (λ proof. yes-or-no-one (IsValid problem proof) status.Ok status.CertRejected) (get files cert))
+    (get files board)
 status-one (gen fpgas nets groups board) files = one-of status.Ok
 status-one (demo fpgas nets groups solution cert) files = showing-one (generated fpgas nets groups)
 status-one nothing files = one-of status.Usage

@@ -1,5 +1,5 @@
 -- What `demo` makes of the routing of a board whose nets can be joined.
-use Rattle.std.proofs.Common.{◌≡◌, ℕ, List, [], ◌∷◌, ◌++◌, sym, ap, subst, ◌∙◌}
+use Rattle.std.proofs.Common.{◌≡◌, ◌≢◌, ℕ, List, [], ◌∷◌, ◌++◌, sym, ap, subst, ◌∙◌}
 use Rattle.tdm_desk.specs.Files.{Bytes}
 use Rattle.tdm_problem.specs.Board.{Board}
 use Rattle.tdm_problem.specs.Legal.{AllConnectable}
@@ -18,7 +18,9 @@ use Rattle.tdm_cli.proofs.AskedLaws.{first-of}
 
 module _ (fpgas nets groups : ℕ) (board : Board) (same : board ≡ generated fpgas nets groups) (joined : AllConnectable board) where
   -- the outcome of the routing, where nothing is written
-  pub demo-silent : (s : Status) (report : Bytes) (texts : List Bytes) → Routes board 20 (comes_to 1 s report texts) → (s ≡ status.Ok → ⊥) → Demonstrates fpgas nets groups (comes_to 0 s report texts)
+  pub demo-silent : (s : Status) (report : Bytes) (texts : List Bytes)
+      → Routes board 20 (comes_to 1 s report texts) → s ≢ status.Ok
+      → Demonstrates fpgas nets groups (comes_to 0 s report texts)
   demo-silent s report texts (is_unconnectable apart are some is) other =
       let net = first-of apart some in
       let found = (are.exact net.0).0 net.1 in

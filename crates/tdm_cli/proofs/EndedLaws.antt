@@ -4,7 +4,7 @@ use Rattle.std.specs.Prelude.{Option, Some, None}
 use Rattle.tdm_desk.specs.declared.slots.InSlot.{InSlot}
 use Rattle.tdm_desk.specs.Files.{Files}
 use Rattle.tdm_desk.specs.Seen.{Seen, files_of}
-use Rattle.tdm_desk.specs.Counts.{Counts, ReadingFailed, WritingFailed, read_counted, read_faults, write_faults, with_read_faults}
+use Rattle.tdm_desk.specs.Counts.{Counts, WritingFailed, read_counted, read_faults, write_faults, with_read_faults}
 use Rattle.command_run.specs.Slots.{place, KeepsOutputsBehind, AreClosed}
 use Rattle.command_run.specs.Outcome.{Outcome, with_unread}
 use Rattle.command_run.specs.Inputs.{HoldEach, contents_in, unread}
@@ -18,7 +18,7 @@ use Rattle.tdm_cli.specs.Kinds.{faults}
 use Rattle.tdm_cli.specs.Request.{Request, inputs_of, outputs_of}
 use Rattle.tdm_cli.specs.Outcomes.{CallsFor}
 use Rattle.tdm_cli.specs.Asked.{StatusFor, IsOutsideFault}
-use Rattle.tdm_cli.specs.Ended.{ReportsReadFault}
+use Rattle.tdm_cli.specs.Ended.{IsAsCalled, TellsFaults, ReportsReadFault}
 use Rattle.tdm_cli.proofs.FairLaws.{IsOwn, IsNothing, IsDecided, IsFair, fair}
 use Rattle.tdm_cli.proofs.AskedLaws.{status-for, status-one}
 
@@ -62,7 +62,7 @@ module _ {D : Type 0} (counts : D → Counts) (steady : D → Type 0) (seen : D 
           stop (inr wanted) = wanting ends.outcome.unread wanted.0 wanted.1
 
   -- at a status of the command's own an outcome was put out of which all inputs could be read
-  pub ended-own : Ends → (IsOutsideFault answer → ⊥) → (P : Type 0)
+  pub ended-own : Ends → ¬ IsOutsideFault answer → (P : Type 0)
       → ((outcome : Outcome Status) → Came outcome → Put outcome → KeepsOutputsBehind (length outcome.texts) (seen before) (seen after) → IsDecided request outcome → P) → P
   ended-own ends no_fault P whole = ended ends P whole
       (λ slot near came put kept. absurd (no_fault (subst IsOutsideFault (sym put.stands) tt)))
@@ -85,27 +85,31 @@ module _ {D : Type 0} (counts : D → Counts) (steady : D → Type 0) (seen : D 
   told-status files told outcome came put decided =
       subst (StatusFor request files) (sym put.stands) (status-for request files outcome (told-calls files told outcome came decided))
 
-  pub run-cause : Ends → (files : Files) → files_of (seen before) ≡ Some files → IsOutsideFault answer ⊎ StatusFor request files answer
+  run-cause : Ends → (files : Files) → files_of (seen before) ≡ Some files → IsOutsideFault answer
+      ⊎ StatusFor request files answer
   run-cause ends files told = ended ends (IsOutsideFault answer ⊎ StatusFor request files answer)
       (λ outcome came put kept decided. inr (told-status files told outcome came put decided))
       (λ slot near came put kept. inl (subst IsOutsideFault (sym put.stands) tt))
       (λ is failed. inl (subst IsOutsideFault (sym is) tt))
       (λ u is own. inl (subst IsOutsideFault (sym is) tt))
 
-  pub run-exact : Ends → (files : Files) → files_of (seen before) ≡ Some files → (called : Status) → StatusFor request files called → (answer ≡ called) ⊎ IsOutsideFault answer
-  run-exact ends files told called calls = by (run-cause ends files told)
+  pub run-called : Ends → (files : Files) → files_of (seen before) ≡ Some files
+      → IsAsCalled counts steady request files before after answer
+  run-called ends files told = record {
+    cause = run-cause ends files told;
+    exact = λ called calls. by called calls (run-cause ends files told);
+    complete = λ called calls no_read no_write. ended ends ((answer ≡ called) ⊎ (answer ≡ status.OutOfMemory))
+        (λ outcome came put kept decided. inl (status-one request files answer called
+        (told-status files told outcome came put decided) calls))
+        (λ slot near came put kept. absurd (no_read slot near came.failed))
+        (λ is failed. absurd (no_write failed))
+        (λ u is own. inr is);
+  }
     where
-      by : IsOutsideFault answer ⊎ StatusFor request files answer → (answer ≡ called) ⊎ IsOutsideFault answer
-      by (inl fault) = inr fault
-      by (inr is) = inl (status-one request files answer called is calls)
-
-  pub run-complete : Ends → (files : Files) → files_of (seen before) ≡ Some files → (called : Status) → StatusFor request files called
-      → ((slot : InSlot) → place slot ≤ length (inputs_of request) → ReadingFailed counts steady slot before after → ⊥) → (WritingFailed counts steady before after → ⊥) → (answer ≡ called) ⊎ (answer ≡ status.OutOfMemory)
-  run-complete ends files told called calls no_read no_write = ended ends ((answer ≡ called) ⊎ (answer ≡ status.OutOfMemory))
-      (λ outcome came put kept decided. inl (status-one request files answer called (told-status files told outcome came put decided) calls))
-      (λ slot near came put kept. absurd (no_read slot near came.failed))
-      (λ is failed. absurd (no_write failed))
-      (λ u is own. inr is)
+      by : (called : Status) → StatusFor request files called → IsOutsideFault answer
+          ⊎ StatusFor request files answer → (answer ≡ called) ⊎ IsOutsideFault answer
+      by called calls (inl fault) = inr fault
+      by called calls (inr is) = inl (status-one request files answer called is calls)
 
   pub run-read_fault : Ends → answer ≡ status.ReadFault → ReportsReadFault counts steady seen request before after
   run-read_fault ends fault = ended ends (ReportsReadFault counts steady seen request before after)
@@ -121,11 +125,6 @@ module _ {D : Type 0} (counts : D → Counts) (steady : D → Type 0) (seen : D 
       (λ is failed. failed)
       (λ u is own. absurd (let e : status.WriteFault ≡ status.OutOfMemory = sym fault ∙ is in cc))
 
-  -- no count rose at a status of the command's own
-  pub run-uncounted : Ends → (IsOutsideFault answer → ⊥) → counts after ≡ counts before
-  run-uncounted ends no_fault = ended-own ends no_fault (counts after ≡ counts before)
-      (λ outcome came put kept decided. put.own ∙ ap (λ u. with_unread u (counts before)) decided.readable)
-
   pub run-usage : Ends → answer ≡ status.Usage → IsNothing request
   run-usage ends usage = ended-own ends (subst IsOutsideFault usage) (IsNothing request) (λ outcome came put kept decided. decided.usage (sym put.stands ∙ usage))
 
@@ -133,20 +132,27 @@ module _ {D : Type 0} (counts : D → Counts) (steady : D → Type 0) (seen : D 
   run-closed ends ok = ended-own ends (subst IsOutsideFault ok) (AreClosed (length (outputs_of request)) (seen after))
       (λ outcome came put kept decided. subst (λ n. AreClosed n (seen after)) (decided.written (sym put.stands ∙ ok)) put.closed)
 
-  -- where a count rose, it was told: of writing as such, of reading unless writing failed or memory was wanting behind it
-  pub run-told_writing : Ends → write_faults (counts before) < write_faults (counts after) → answer ≡ status.WriteFault
-  run-told_writing ends rose = ended ends (answer ≡ status.WriteFault)
-      (λ outcome came put kept decided. absurd (unwritten outcome.unread put.own))
-      (λ slot near came put kept. absurd (unwritten (Some slot) put.own))
-      (λ is failed. is)
-      (λ u is own. absurd (unwritten u own))
+  pub run-told : Ends → TellsFaults counts before after answer
+  run-told ends = record {
+    writing = λ rose. ended ends (answer ≡ status.WriteFault)
+        (λ outcome came put kept decided. absurd (unwritten outcome.unread put.own rose))
+        (λ slot near came put kept. absurd (unwritten (Some slot) put.own rose))
+        (λ is failed. is)
+        (λ u is own. absurd (unwritten u own rose));
+    reading = λ slot rose. ended ends (IsOutsideFault answer)
+        (λ outcome came put kept decided. absurd (let same = own-counts outcome put decided in omega
+        (arith, rose, ap (read_faults slot) same)))
+        (λ other near came put kept. subst IsOutsideFault (sym put.stands) tt)
+        (λ is failed. subst IsOutsideFault (sym is) tt)
+        (λ u is own. subst IsOutsideFault (sym is) tt);
+    uncounted = λ no_fault. ended-own ends no_fault (counts after ≡ counts before)
+        (λ outcome came put kept decided. own-counts outcome put decided);
+  }
     where
-      unwritten : (u : Option InSlot) → counts after ≡ with_unread u (counts before) → ⊥
-      unwritten u own = omega (arith, rose, ap write_faults own, kept-writing u (counts before))
+      unwritten : (u : Option InSlot) → counts after ≡ with_unread u (counts before)
+          → ¬ (write_faults (counts before) < write_faults (counts after))
+      unwritten u own = λ rose. omega (arith, rose, ap write_faults own, kept-writing u (counts before))
 
-  pub run-told_reading : Ends → (slot : InSlot) → read_faults slot (counts before) < read_faults slot (counts after) → IsOutsideFault answer
-  run-told_reading ends slot rose = ended ends (IsOutsideFault answer)
-      (λ outcome came put kept decided. absurd (let same = put.own ∙ ap (λ u. with_unread u (counts before)) decided.readable in omega (arith, rose, ap (read_faults slot) same)))
-      (λ other near came put kept. subst IsOutsideFault (sym put.stands) tt)
-      (λ is failed. subst IsOutsideFault (sym is) tt)
-      (λ u is own. subst IsOutsideFault (sym is) tt)
+      own-counts : (outcome : Outcome Status) → Put outcome → IsDecided request outcome
+          → counts after ≡ counts before
+      own-counts outcome put decided = put.own ∙ ap (λ u. with_unread u (counts before)) decided.readable

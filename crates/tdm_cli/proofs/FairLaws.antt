@@ -1,5 +1,5 @@
 -- What is known of each outcome that a request calls for.
-use Rattle.std.proofs.Common.{◌≡◌, ◌⊎◌, ℕ, ◌≤◌, List, [], length, refl, sym, subst, inl, inr, arith}
+use Rattle.std.proofs.Common.{◌≡◌, ◌≢◌, ◌⊎◌, ℕ, ◌≤◌, List, [], length, refl, sym, subst, inl, inr, arith}
 use Rattle.std.specs.Prelude.{None}
 use Rattle.tdm_desk.specs.declared.slots.InSlot.{InSlot}
 use Rattle.tdm_desk.specs.declared.slots.InSlot.TheVariants.{In0, In1}
@@ -108,7 +108,7 @@ demonstrates-fair fpgas nets groups solution cert outcome (is_shown solved proof
 
 -- the status is one of a text that is refused
 abbrev IsRefusal : Status → Type 0
-IsRefusal s = IsOwn s × (s ≡ status.Usage → ⊥) × (s ≡ status.Ok → ⊥)
+IsRefusal s = IsOwn s × (s ≢ status.Usage) × (s ≢ status.Ok)
 
 -- what an input decides by itself is fair of every request that has it, and so all is where what follows from its text is
 input-fair : (request : Request) (slot : InSlot) → place slot ≤ length (inputs_of request) → {V R : Type 0} (kind : TextKind Status V R) → IsRefusal kind.status

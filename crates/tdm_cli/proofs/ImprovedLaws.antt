@@ -27,28 +27,27 @@ use Rattle.tdm_cli.proofs.BaselineLaws.{base-trees-for, base-minimal-each, base-
 pub base-minimal : (board : Board) → IsBoard board → (trees : List (List ℕ)) → AreBaseTrees board trees → AreMinimalTrees board trees
 base-minimal board is trees base = record { for_board = base-trees-for board is trees base; minimal = base-minimal-each board is trees base }
 
--- the better of two proofs is one
-best-proof : (board : Board) (cert : Cert) → IsBestCert board cert → IsProof board cert
-best-proof board cert best = by best.better
-  where
-    by : ((cert ≡ best.hop) × (bound_of board best.share ≤ bound_of board best.hop)) ⊎ ((cert ≡ best.share) × (bound_of board best.hop < bound_of board best.share)) → IsProof board cert
-    by (inl hop) = subst (IsProof board) (sym hop.0) best.is_hop.proof
-    by (inr share) = subst (IsProof board) (sym share.0) best.is_share.proof
+-- the certificate is a proof whose bound is at least both floors
+abbrev IsFloored : Board → Cert → Type 0
+IsFloored board cert = IsProof board cert
+    × ((floor : ℕ) → IsHopFloor board floor → floor ≤ bound_of board cert)
+    × ((floor : ℕ) → IsShareFloor board floor → floor ≤ bound_of board cert)
 
--- its bound is at least both floors
-hop-floor : (board : Board) (cert : Cert) → IsBestCert board cert → (floor : ℕ) → IsHopFloor board floor → floor ≤ bound_of board cert
-hop-floor board cert best floor is = by best.better
+best-floored : (board : Board) (cert : Cert) → IsBestCert board cert → IsFloored board cert
+best-floored board cert best = by best.better
   where
-    by : ((cert ≡ best.hop) × (bound_of board best.share ≤ bound_of board best.hop)) ⊎ ((cert ≡ best.share) × (bound_of board best.hop < bound_of board best.share)) → floor ≤ bound_of board cert
-    by (inl hop) = omega (arith, best.is_hop.only_floor floor is, ap (bound_of board) hop.0)
-    by (inr share) = omega (arith, best.is_hop.only_floor floor is, ap (bound_of board) share.0, share.1)
-
-share-floor : (board : Board) (cert : Cert) → IsBestCert board cert → (floor : ℕ) → IsShareFloor board floor → floor ≤ bound_of board cert
-share-floor board cert best floor is = by best.better
-  where
-    by : ((cert ≡ best.hop) × (bound_of board best.share ≤ bound_of board best.hop)) ⊎ ((cert ≡ best.share) × (bound_of board best.hop < bound_of board best.share)) → floor ≤ bound_of board cert
-    by (inl hop) = omega (arith, best.is_share.only_floor floor is, ap (bound_of board) hop.0, hop.1)
-    by (inr share) = omega (arith, best.is_share.only_floor floor is, ap (bound_of board) share.0)
+    by : ((cert ≡ best.hop) × (bound_of board best.share ≤ bound_of board best.hop))
+        ⊎ ((cert ≡ best.share) × (bound_of board best.hop < bound_of board best.share)) → IsFloored board cert
+    by (inl hop) = (
+      subst (IsProof board) (sym hop.0) best.is_hop.proof,
+      (λ floor is. omega (arith, best.is_hop.only_floor floor is, ap (bound_of board) hop.0)),
+      (λ floor is. omega (arith, best.is_share.only_floor floor is, ap (bound_of board) hop.0, hop.1)),
+    )
+    by (inr share) = (
+      subst (IsProof board) (sym share.0) best.is_share.proof,
+      (λ floor is. omega (arith, best.is_hop.only_floor floor is, ap (bound_of board) share.0, share.1)),
+      (λ floor is. omega (arith, best.is_share.only_floor floor is, ap (bound_of board) share.0)),
+    )
 
 -- the baseline has the baseline's value
 baseline-value : (board : Board) (routing : Routing) → IsBaseline board routing → (value : ℕ) → IsBaselineValue board value → value_of board routing ≡ value
@@ -58,7 +57,8 @@ baseline-value board routing baseline value is =
 -- the baseline and the better of two certificates may be written
 pub IsBest-baseline : (board : Board) (routing : Routing) (value : ℕ) (certified : Certified) → IsBaseline board routing → IsBestCert board certified.cert → value ≡ value_of board routing → certified.bound ≡ bound_of board certified.cert → IsBest board routing value certified
 IsBest-baseline board routing value certified baseline best value_is bound_is =
-    let proof = best-proof board certified.cert best in
+    let floored = best-floored board certified.cert best in
+    let proof = floored.0 in
     record {
       may_be_written = record {
         for_board = baseline.legal.is_for;
@@ -73,8 +73,8 @@ IsBest-baseline board routing value certified baseline best value_is bound_is =
         valid = proof.valid;
         is_bound = subst (IsBound board certified.cert) (sym bound_is) proof.bound;
         lower = subst (IsLowerBound board) (sym bound_is) proof.lower;
-        hop_floor = λ floor is. omega (arith, hop-floor board certified.cert best floor is, bound_is);
-        share_floor = λ floor is. omega (arith, share-floor board certified.cert best floor is, bound_is);
+        hop_floor = λ floor is. omega (arith, floored.1 floor is, bound_is);
+        share_floor = λ floor is. omega (arith, floored.2 floor is, bound_is);
       };
       value_is = value_is;
     }

@@ -45,7 +45,8 @@ not-empty (x ∷ xs) n e = cc
 
 module _ (board : Board) (n : ℕ) (trees : List (List ℕ)) (used : ℕ) (missing : List ℕ) (so_far : IsProgress board n trees used missing) where
   -- no wires join the next net
-  pub progress-missing : (IsConnectable board (terminals_of board n) → ⊥) → IsProgress board (n + 1) trees used (missing ++ n ∷ [])
+  pub progress-missing : ¬ IsConnectable board (terminals_of board n)
+      → IsProgress board (n + 1) trees used (missing ++ n ∷ [])
   progress-missing apart = record {
     limit = so_far.limit;
     few = omega (arith, so_far.few);
@@ -54,14 +55,18 @@ module _ (board : Board) (n : ℕ) (trees : List (List ℕ)) (used : ℕ) (missi
     based = λ empty. absurd (not-empty missing n empty);
   }
     where
-      to : (k : ℕ) → Contains (missing ++ n ∷ []) k → (k < n + 1) × (IsConnectable board (terminals_of board k) → ⊥)
+      to : (k : ℕ) → Contains (missing ++ n ∷ []) k → (k < n + 1)
+          × ¬ IsConnectable board (terminals_of board k)
       to k h = by (Contains-append_cases missing (n ∷ []) k h)
         where
-          by : Contains missing k ⊎ Contains (n ∷ []) k → (k < n + 1) × (IsConnectable board (terminals_of board k) → ⊥)
+          by : Contains missing k ⊎ Contains (n ∷ []) k → (k < n + 1)
+              × ¬ IsConnectable board (terminals_of board k)
           by (inl earlier) = let old = (so_far.exact k).0 earlier in (omega (arith, old.0), old.1)
-          by (inr last) = subst (λ j. (j < n + 1) × (IsConnectable board (terminals_of board j) → ⊥)) (only-last n k last) (omega arith, apart)
+          by (inr last) = subst (λ j. (j < n + 1) × ¬ IsConnectable board (terminals_of board j))
+              (only-last n k last) (omega arith, apart)
 
-      from : (k : ℕ) → (k < n + 1) × (IsConnectable board (terminals_of board k) → ⊥) → Contains (missing ++ n ∷ []) k
+      from : (k : ℕ) → (k < n + 1) × ¬ IsConnectable board (terminals_of board k)
+          → Contains (missing ++ n ∷ []) k
       from k h = by (split-below k n h.0)
         where
           by : (k < n) ⊎ (k ≡ n) → Contains (missing ++ n ∷ []) k
@@ -69,10 +74,10 @@ module _ (board : Board) (n : ℕ) (trees : List (List ℕ)) (used : ℕ) (missi
           by (inr same) = subst (Contains (missing ++ n ∷ [])) (sym same) (Contains-append_right missing (n ∷ []) n (has-last n))
 
   module _ (joined : IsConnectable board (terminals_of board n)) where
-    exact-next : (k : ℕ) → Contains missing k ↔ ((k < n + 1) × (IsConnectable board (terminals_of board k) → ⊥))
+    exact-next : (k : ℕ) → Contains missing k ↔ ((k < n + 1) × ¬ IsConnectable board (terminals_of board k))
     exact-next k = (λ h. let old = (so_far.exact k).0 h in (omega (arith, old.0), old.1), from)
       where
-        from : (k < n + 1) × (IsConnectable board (terminals_of board k) → ⊥) → Contains missing k
+        from : (k < n + 1) × ¬ IsConnectable board (terminals_of board k) → Contains missing k
         from h = by (split-below k n h.0)
           where
             by : (k < n) ⊎ (k ≡ n) → Contains missing k

@@ -1,5 +1,5 @@
 -- What is read to its end where a run ends well.
-use Rattle.std.proofs.Common.{◌≡◌, ℕ, ◌≤◌, ◌+◌, ◌^◌, List, [], ◌∷◌, length, refl, sym, ap, subst, ◌∙◌, arith, drop}
+use Rattle.std.proofs.Common.{◌≡◌, ◌≢◌, ℕ, ◌≤◌, ◌+◌, ◌^◌, List, [], ◌∷◌, length, refl, sym, ap, subst, ◌∙◌, arith, drop}
 use Rattle.std.specs.Prelude.{Option, Some, None, Ok, option_map, unwrap_or}
 use Rattle.std.proofs.lemmas.List.{drop_all}
 use Rattle.std.specs.Option.{ForSome}
@@ -17,7 +17,7 @@ use Rattle.command_run.specs.Ends.{RunEnds}
 use Rattle.command_run.proofs.StatusLaws.{by-input}
 use Rattle.tdm_cli.specs.declared.status.Status.{Status}
 use Rattle.tdm_cli.specs.declared.status.Status.TheVariants as status
-use Rattle.tdm_cli.specs.Kinds.{faults, boards, solutions, certificates, board_input, second_input}
+use Rattle.tdm_cli.specs.Kinds.{faults, boards, solutions, certificates, board_input, solution_input, cert_input}
 use Rattle.tdm_cli.specs.Request.{Request, route, eval, check, gen, demo, nothing, inputs_of, outputs_of}
 use Rattle.tdm_cli.specs.Outcomes.{Routes, Judges, Checks, Generates, Demonstrates, JudgesNext, ChecksNext, CallsFor, refused_words}
 use Rattle.tdm_cli.specs.Asked.{IsOutsideFault}
@@ -67,7 +67,9 @@ none-short Is [] outcome is = λ ok. tt
 none-short Is (content ∷ contents) outcome is = absurd is
 
 -- and of one more input before them, where its text is within the limit if it is accepted
-input-short : (input : Input) (inputs : List Input) {V R : Type 0} (kind : TextKind Status V R) → (kind.status ≡ status.Ok → ⊥) → ((bytes : Bytes) (value : V) → kind.says bytes ≡ Ok value → length bytes ≤ input.limit)
+input-short : (input : Input) (inputs : List Input) {V R : Type 0} (kind : TextKind Status V R)
+    → kind.status ≢ status.Ok → ((bytes : Bytes) (value : V) → kind.says bytes ≡ Ok value
+    → length bytes ≤ input.limit)
     → (Then : V → List Content → Outcome Status → Type 0) → ((value : V) (contents : List Content) (outcome : Outcome Status) → Then value contents outcome → IsShort inputs contents outcome)
     → (contents : List Content) (outcome : Outcome Status) → ByInput faults input.slot kind Then contents outcome → IsShort (input ∷ inputs) contents outcome
 input-short input inputs kind refusal within Then each = by-input faults input.slot kind Then (IsShort (input ∷ inputs))
@@ -80,10 +82,14 @@ board-short name inputs = input-short (board_input name) inputs boards (λ e. cc
 
 short : (request : Request) (contents : List Content) (outcome : Outcome Status) → CallsFor request contents outcome → IsShort (inputs_of request) contents outcome
 short (route board solution cert rounds) = board-short board [] (λ problem. ByNone (Routes problem rounds)) (λ problem. none-short (Routes problem rounds))
-short (eval board solution) = board-short board (second_input solution ∷ []) JudgesNext
-    (λ problem. input-short (second_input solution) [] (solutions problem) (λ e. cc) (λ bytes solved says. within-limit (2 ^ 30) (length bytes) _ _ solved says) (λ solved. ByNone (Judges problem solved)) (λ solved. none-short (Judges problem solved)))
-short (check board cert) = board-short board (second_input cert ∷ []) ChecksNext
-    (λ problem. input-short (second_input cert) [] (certificates problem) (λ e. cc) (λ bytes proof says. within-limit (2 ^ 30) (length bytes) _ _ proof says) (λ proof. ByNone (Checks problem proof)) (λ proof. none-short (Checks problem proof)))
+short (eval board solution) = board-short board (solution_input solution ∷ []) JudgesNext
+    (λ problem. input-short (solution_input solution) [] (solutions problem) (λ e. cc)
+    (λ bytes solved says. within-limit (2 ^ 30) (length bytes) _ _ solved says)
+    (λ solved. ByNone (Judges problem solved)) (λ solved. none-short (Judges problem solved)))
+short (check board cert) = board-short board (cert_input cert ∷ []) ChecksNext
+    (λ problem. input-short (cert_input cert) [] (certificates problem) (λ e. cc)
+    (λ bytes proof says. within-limit (2 ^ 30) (length bytes) _ _ proof says)
+    (λ proof. ByNone (Checks problem proof)) (λ proof. none-short (Checks problem proof)))
 short (gen fpgas nets groups board) = none-short (Generates fpgas nets groups)
 short (demo fpgas nets groups solution cert) = none-short (Demonstrates fpgas nets groups)
 short nothing = none-short (λ outcome. outcome ≡ refused_words)

@@ -1,5 +1,5 @@
 -- The words of a command line by their places, and what they say of a command's names.
-use Rattle.std.proofs.Common.{◌≡◌, ℕ, ◌<◌, ◌≤◌, ◌^◌, length, List, [], ◌∷◌, slice_index_or, sym, subst, ◌∙◌, arith, codes}
+use Rattle.std.proofs.Common.{◌≡◌, ◌≢◌, ℕ, suc, ◌<◌, ◌≤◌, ◌^◌, length, List, [], ◌∷◌, slice_index_or, refl, sym, subst, ◌∙◌, arith, codes}
 use Rattle.std.specs.Prelude.{Option, Some, None, IfNone, Result, Ok}
 use Rattle.std.specs.Str.Parse.{ParsesUnsigned}
 use Rattle.std.proofs.lemmas.Fmt.{parse-decimal, decimal_injective}
@@ -15,29 +15,24 @@ pub if-none : {A : Type 0} (found : Option A) (P Q : Type 0) → (P → Q) → I
 if-none (Some a) P Q then h = tt
 if-none None P Q then h = then h
 
--- a list of three elements is those at its three places
-pub three : {A : Type 0} (xs : List A) (a b c : A) → 3 ≤ length xs → length xs < 4 → a ≡ slice_index_or xs 0 a → b ≡ slice_index_or xs 1 b → c ≡ slice_index_or xs 2 c → xs ≡ a ∷ b ∷ c ∷ []
-three (x ∷ y ∷ z ∷ []) a b c low high ea eb ec = cc
-three _ a b c low high ea eb ec = absurd (omega arith)
+-- from this place on the list has these elements
+abbrev pub HasFrom : {A : Type 0} → List A → ℕ → List A → Type 0
+HasFrom xs k [] = Unit {0}
+HasFrom xs k (y ∷ ys) = (y ≡ slice_index_or xs k y) × HasFrom xs (suc k) ys
 
--- a list of four elements is those at its four places
-pub four : {A : Type 0} (xs : List A) (a b c d : A) → 4 ≤ length xs → length xs < 5 → a ≡ slice_index_or xs 0 a → b ≡ slice_index_or xs 1 b → c ≡ slice_index_or xs 2 c → d ≡ slice_index_or xs 3 d → xs ≡ a ∷ b ∷ c ∷ d ∷ []
-four (x ∷ y ∷ z ∷ w ∷ []) a b c d low high ea eb ec ed = cc
-four _ a b c d low high ea eb ec ed = absurd (omega arith)
+has-behind : {A : Type 0} (x : A) (xs : List A) (k : ℕ) (ys : List A) → HasFrom (x ∷ xs) (suc k) ys
+    → HasFrom xs k ys
+has-behind x xs k [] has = tt
+has-behind x xs k (y ∷ ys) has = (has.0, has-behind x xs (suc k) ys has.1)
 
--- a list of five elements is those at its five places
-pub five : {A : Type 0} (xs : List A) (a b c d e : A) → 5 ≤ length xs → length xs < 6 → a ≡ slice_index_or xs 0 a → b ≡ slice_index_or xs 1 b → c ≡ slice_index_or xs 2 c → d ≡ slice_index_or xs 3 d → e ≡ slice_index_or xs 4 e → xs ≡ a ∷ b ∷ c ∷ d ∷ e ∷ []
-five [] a b c d e low high ea eb ec ed ee = absurd (omega arith)
-five (x ∷ xs) a b c d e low high ea eb ec ed ee =
-    let rest : xs ≡ b ∷ c ∷ d ∷ e ∷ [] = four xs b c d e (omega (arith, low)) (omega (arith, high)) eb ec ed ee in
-    cc
-
--- a list of six elements is those at its six places
-pub six : {A : Type 0} (xs : List A) (a b c d e f : A) → 6 ≤ length xs → length xs < 7 → a ≡ slice_index_or xs 0 a → b ≡ slice_index_or xs 1 b → c ≡ slice_index_or xs 2 c → d ≡ slice_index_or xs 3 d → e ≡ slice_index_or xs 4 e → f ≡ slice_index_or xs 5 f → xs ≡ a ∷ b ∷ c ∷ d ∷ e ∷ f ∷ []
-six [] a b c d e f low high ea eb ec ed ee ef = absurd (omega arith)
-six (x ∷ xs) a b c d e f low high ea eb ec ed ee ef =
-    let rest : xs ≡ b ∷ c ∷ d ∷ e ∷ f ∷ [] = five xs b c d e f (omega (arith, low)) (omega (arith, high)) eb ec ed ee ef in
-    cc
+-- a list is the elements at its places
+pub its-elements : {A : Type 0} (xs ys : List A) → length xs ≡ length ys → HasFrom xs 0 ys → xs ≡ ys
+its-elements [] [] same has = refl
+its-elements (x ∷ xs) (y ∷ ys) same has =
+    let first : y ≡ x = has.0 in
+    let rest : xs ≡ ys = its-elements xs ys (omega (arith, same)) (has-behind x xs 0 ys has.1) in
+    cc (first, rest)
+its-elements _ _ same has = absurd (omega (arith, same))
 
 -- four words that ask for no routing are no command
 pub none-of-four : (a b c d : List ℕ) → IsNoRoute (a ∷ b ∷ c ∷ d ∷ []) → ¬ IsCommand (a ∷ b ∷ c ∷ d ∷ [])
@@ -56,7 +51,8 @@ none-of-gen a b c d none (is_gen fpgas nets groups board is) = none fpgas nets g
 none-of-gen a b c d none (is_demo fpgas nets groups solution cert is) = let e = is.words_are in cc
 
 -- five words that begin otherwise and ask for no routing are no command
-pub none-of-five : (verb a b c d : List ℕ) → (verb ≡ codes "gen" → ⊥) → IsNoRoute (verb ∷ a ∷ b ∷ c ∷ d ∷ []) → ¬ IsCommand (verb ∷ a ∷ b ∷ c ∷ d ∷ [])
+pub none-of-five : (verb a b c d : List ℕ) → verb ≢ codes "gen" → IsNoRoute (verb ∷ a ∷ b ∷ c ∷ d ∷ [])
+    → ¬ IsCommand (verb ∷ a ∷ b ∷ c ∷ d ∷ [])
 none-of-five verb a b c d other none (is_route board solution cert rounds is) = none board solution cert rounds is
 none-of-five verb a b c d other none (is_eval board solution is) = let e = is.words_are in cc
 none-of-five verb a b c d other none (is_check board cert is) = let e = is.words_are in cc

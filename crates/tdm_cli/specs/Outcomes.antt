@@ -21,6 +21,7 @@ use Rattle.command_run.specs.Outcome.{Outcome}
 use Rattle.command_run.specs.Inputs.{Content, ByInput, ByNone}
 use Rattle.tdm_cli.specs.declared.status.Status.{Status}
 use Rattle.tdm_cli.specs.declared.status.Status.TheVariants as status
+use Rattle.tdm_cli.specs.Words.{usual_rounds}
 use Rattle.tdm_cli.specs.Reports.{usage_report, route_report, size_report, demo_report, verdict_report, answer_report, unconnectable_report, use_limit_report}
 use Rattle.tdm_cli.specs.Baseline.{AreUnconnectable, IsOverUseLimit}
 use Rattle.tdm_cli.specs.Improved.{IsImproved}
@@ -77,12 +78,13 @@ pub record Generates (fpgas nets groups : ℕ) (outcome : Outcome Status) : Type
   pub is : outcome ≡ comes_to 0 status.Ok (size_report (generated fpgas nets groups))
       (board_text (generated fpgas nets groups) ∷ [])
 
--- what the routing of the board of these numbers by 20 rounds comes to: the baseline has too many uses, or a solution and a
--- certificate are written, and how large the board is, their value and their bound are said
+-- what routing the board of these numbers by the usual rounds comes to: the baseline has too many uses, or a
+-- solution and a certificate are written, and how large the board is, their value and their bound are said
 pub data Demonstrates (fpgas nets groups : ℕ) (outcome : Outcome Status) : Type 0 where
   is_too_large : IsOverUseLimit (generated fpgas nets groups)
       → outcome ≡ comes_to 0 status.UseLimit use_limit_report [] → Demonstrates fpgas nets groups outcome
-  is_shown : (routing : Routing) (cert : Cert) (bound : ℕ) → IsImproved (generated fpgas nets groups) 20 routing cert bound
+  is_shown : (routing : Routing) (cert : Cert) (bound : ℕ)
+      → IsImproved (generated fpgas nets groups) usual_rounds routing cert bound
       → outcome ≡ comes_to 0 status.Ok
       (demo_report (generated fpgas nets groups) (value_of (generated fpgas nets groups) routing) bound)
       (solution_text routing ∷ cert_text cert ∷ [])

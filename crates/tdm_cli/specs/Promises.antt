@@ -31,6 +31,7 @@ use Rattle.tdm_cli.specs.declared.status.Status.TheVariants as status
 use Rattle.tdm_cli.specs.Baseline.{most_uses}
 use Rattle.tdm_cli.specs.Routing.{IsBaselineValue}
 use Rattle.tdm_cli.specs.Improved.{MeetsBaselineRounds}
+use Rattle.tdm_cli.specs.Words.{usual_rounds}
 use Rattle.tdm_cli.specs.Reports.{route_report, size_report, demo_report, bound_report, steep_report, verdict_report}
 use Rattle.tdm_cli.specs.Request.{Request, route, eval, check, gen, demo}
 
@@ -128,13 +129,14 @@ IsWorth (route board solution cert rounds) files before after status.Ok =
 IsWorth (eval board solution) files before after status.Ok =
     (value : ℕ) × IsJudged files board solution before after (Legal value)
 IsWorth (eval board solution) files before after status.Illegal = (verdict : Verdict)
-    × (SaysLegal verdict → ⊥) × IsJudged files board solution before after verdict
+    × ¬ SaysLegal verdict × IsJudged files board solution before after verdict
 IsWorth (check board cert) files before after status.Ok = IsBounded files board cert before after
 IsWorth (check board cert) files before after status.CertRejected = IsRejected files board cert before after
 IsWorth (gen fpgas nets groups board) files before after status.Ok =
     IsGenerated files fpgas nets groups board before after
 IsWorth (demo fpgas nets groups solution cert) files before after status.Ok =
-    IsWritten (generated fpgas nets groups) files solution cert 20 (demo_report (generated fpgas nets groups)) before after
+    IsWritten (generated fpgas nets groups) files solution cert usual_rounds
+    (demo_report (generated fpgas nets groups)) before after
 IsWorth request files before after answer = Unit {0}
 
 -- no legal solution of a board has a value below the bound of a certificate that is accepted for it, whoever made it

@@ -1,5 +1,5 @@
 -- Rounds: the groups are weighed, the nets rerouted for these weights, and the wires shared by the roots of the weights.
-use Rattle.std.specs.Prelude.{◌≡◌, ℕ, suc, ◌/◌, ◌^◌, ◌<◌, ◌≤◌, ◌⊎◌, List, [], ◌∷◌, length, map, slice_index, sum_by, replicate, All}
+use Rattle.std.specs.Prelude.{◌≡◌, ℕ, suc, ◌/◌, ◌<◌, ◌≤◌, ◌⊎◌, List, [], ◌∷◌, length, map, slice_index, sum_by, replicate, All}
 use Rattle.std.specs.List.{range_with_len}
 use Rattle.tdm_problem.specs.Board.{Board}
 use Rattle.tdm_problem.specs.Legal.{lanes_of}
@@ -12,6 +12,7 @@ use Rattle.group_multipliers.specs.Renewal.{renewed}
 use Rattle.even_legalise.specs.Shared.{shared_routing}
 use Rattle.bound_cert.specs.declared.certificate.CertKind.TheVariants.{Share}
 use Rattle.bound_cert.specs.Bound.{IsBound}
+use Rattle.bound_cert.specs.Limits.{uniform_weight}
 use Rattle.bound_cert.specs.Makers.{growing_cert}
 use Rattle.bound_cert.specs.Weighted.{IsShareBound}
 use Rattle.ripup_reroute.specs.Turns.{ArePasses}
@@ -76,9 +77,9 @@ pub data AreRounds (board : Board) : (left : ℕ) (weights : List ℕ) (before :
       → FitsUses round → AreRounds board left (next_of board round) round.trees rounds
       → AreRounds board (suc left) round.weights before (round ∷ rounds)
 
--- the weights of the first round: 2^20 for each group
+-- the weights of the first round: the same for each group
 abbrev pub first_weights : Board → List ℕ
-first_weights board = replicate (length board.groups) (2 ^ 20)
+first_weights board = replicate (length board.groups) uniform_weight
 
 -- a list of so many rounds: from the first weights and these trees
 abbrev pub IsRoundList : Board → (baseline : List (List ℕ)) → (count : ℕ) → List Round → Type 0

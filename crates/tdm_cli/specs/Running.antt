@@ -1,15 +1,16 @@
 -- Rounds on their way: what one of them did, and what so many come to.
-use Rattle.std.specs.Prelude.{◌≡◌, ℕ, ◌≤◌, ◌^◌, List, length, All, Option, MatchOption}
+use Rattle.std.specs.Prelude.{◌≡◌, ℕ, ◌≤◌, List, length, All, Option, MatchOption}
 use Rattle.tdm_problem.specs.Board.{Board}
+use Rattle.bound_cert.specs.Limits.{most_weight}
 use Rattle.tdm_cli.specs.declared.candidates.Candidate.{Candidate}
 use Rattle.tdm_cli.specs.Rounds.{Round, Reroutes, FitsUses, next_of, AreRounds, IsMet}
 use Rattle.tdm_cli.specs.Candidates.{IsOfRound, IsOfLast}
 
--- there is a weight for each group, from 1 to 2^40
+-- there is a weight for each group, from 1 to the largest
 pub record AreWeights (board : Board) (weights : List ℕ) : Type 0 where
   pub count : length weights ≡ length board.groups
   pub positive : All (λ weight. 1 ≤ weight) weights
-  pub limited : All (λ weight. weight ≤ 2 ^ 40) weights
+  pub limited : All (λ weight. weight ≤ most_weight) weights
 
 -- a round that fits led from these weights and trees to those, the value and the bound meet it, and the candidate is of it
 pub record IsWent (board : Board) (weights : List ℕ) (before : List (List ℕ)) (next : List ℕ) (trees : List (List ℕ)) (value bound : ℕ) (last : Option Candidate) : Type 0 where
