@@ -64,8 +64,10 @@ pub fn weighted_share_cert(
     ensures valid { IfOk result (IsValid problem.now) }
     ensures bound { IfOk result (λ cert. IsShareBound problem.now weights.now
         (λ e. slice_index_or lengths.now e 0) (bound_of problem.now cert)) }
-    ensures only_bound { IfOk result (λ cert. (wire_length : ℕ → ℕ) → ListsLengths problem.now lengths.now wire_length
-        → (bound : ℕ) → IsShareBound problem.now weights.now wire_length bound → bound ≡ bound_of problem.now cert) }
+    ensures only_bound { IfOk result (λ cert. (wire_length : ℕ → ℕ)
+        → ListsLengths problem.now lengths.now wire_length
+        → (bound : ℕ) → IsShareBound problem.now weights.now wire_length bound
+        → bound ≡ bound_of problem.now cert) }
     ensures few { IfOk result (λ cert. sum_by length cert.potentials ≤ most_potential_values) }
 {
     let roots = Roots::of(alloc, problem)?;

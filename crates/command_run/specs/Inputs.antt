@@ -34,12 +34,15 @@ content_of (Some bytes) = text bytes
 abbrev pub contents_in : Files → List Input → List Content
 contents_in files inputs = map (λ (input : Input). content_of (get files input.name)) inputs
 
--- where the desk tells its files, there is none of this name, or it holds this text; a text that was opened was read
+-- where the desk tells its files, there is none of this name, or it holds this text; a text that was opened
+-- was read
 -- through, and only the input that failed, if one, could not be read
 abbrev pub Holds : ℕ → Option InSlot → Input → Content → Seen → Seen → Type 0
-Holds opened failed input no_file before after = ForSome (files_of before) (λ files. get files input.name ≡ None)
+Holds opened failed input no_file before after =
+    ForSome (files_of before) (λ files. get files input.name ≡ None)
 Holds opened failed input unreadable before after = failed ≡ Some input.slot
-Holds opened failed input (text bytes) before after = ForSome (files_of before) (λ files. get files input.name ≡ Some bytes)
+Holds opened failed input (text bytes) before after =
+    ForSome (files_of before) (λ files. get files input.name ≡ Some bytes)
     × (place input.slot ≤ opened → WasRead input.slot input.limit input.name before after)
 
 -- the same of each input
@@ -92,7 +95,8 @@ module _ {S : Type 0} (faults : Faults S) (slot : InSlot) where
     FromText (Ok value) Then outcome = Then value outcome
     FromText (Err refusal) Then outcome = outcome ≡ refused refusal
 
-    -- an input decides where it is missing, cannot be read or is refused, and else what follows from what it says
+    -- an input decides where it is missing, cannot be read or is refused, and else what follows from what it
+    -- says
     abbrev pub FromInput : Content → (V → Outcome S → Type 0) → Outcome S → Type 0
     FromInput no_file Then outcome = outcome ≡ missing
     FromInput unreadable Then outcome = outcome ≡ unread

@@ -57,14 +57,16 @@ pub trait TextReader: Drop {
     /// Takes the next bytes of the text. After want of memory it may not be fed again.
     fn feed(&mut self, piece: &[u8]) -> Result<(), AllocError>
         requires { fed self.old + length piece.now ≤ limit self.old + 1 }
-        ensures at { OnOk result ((text : List ℕ) → is_at self.old text → is_at self.new (text ++ piece.now)) }
+        ensures at { OnOk result ((text : List ℕ) → is_at self.old text
+            → is_at self.new (text ++ piece.now)) }
         ensures fed { OnOk result (fed self.new ≡ fed self.old + length piece.now) }
         ensures kind { kind self.new ≡ kind self.old }
         ensures limit { limit self.new ≡ limit self.old };
 
     /// What the text that it was fed says.
     fn end(self) -> Result<Self::Value, TextFault<Self::Refusal>>
-        ensures ok { IfOk result (λ value. (text : List ℕ) → is_at self text → (kind self).says text ≡ Ok value) }
+        ensures ok { IfOk result (λ value. (text : List ℕ) → is_at self text
+            → (kind self).says text ≡ Ok value) }
         ensures fault { IfErr result (λ fault. (text : List ℕ) → is_at self text
             → IsFaultOf ((kind self).says text) fault) };
 

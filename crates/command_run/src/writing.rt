@@ -28,8 +28,10 @@ fn write_file<D: Desk, T: OutputText>(
     name: &str,
     text: &T,
 ) -> Result<(), DeskFault>
-    ensures ok { OnOk result (Leaves (D.seen desk.old) (D.seen desk.new) (name.now ∷ []) (T.text text.now ∷ []) []) }
-    ensures err { OnErr result (LeavesBegun (D.seen desk.old) (D.seen desk.new) (name.now ∷ []) (T.text text.now ∷ [])) }
+    ensures ok { OnOk result (Leaves (D.seen desk.old) (D.seen desk.new) (name.now ∷ [])
+        (T.text text.now ∷ []) []) }
+    ensures err { OnErr result (LeavesBegun (D.seen desk.old) (D.seen desk.new) (name.now ∷ [])
+        (T.text text.now ∷ [])) }
     ensures only { OnlyWrites (out_place slot - 1) (out_place slot) (D.seen desk.old) (D.seen desk.new) }
     ensures closed { OnOk result (IsFalse (output_is_open slot (D.seen desk.new))) }
     ensures failed { IsErrOf result DeskFault.Failed →

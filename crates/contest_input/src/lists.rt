@@ -23,7 +23,8 @@ pub(crate) struct Listing {
 
 /// What net lines list on a board with so many FPGAs.
 pub(crate) fn net_listing(fpgas: u32) -> Listing
-    ensures { (listed : ℕ) (numbers : List ℕ) → list_fault result listed numbers ≡ net_fault fpgas listed numbers }
+    ensures { (listed : ℕ) (numbers : List ℕ) → list_fault result listed numbers
+        ≡ net_fault fpgas listed numbers }
 {
     Listing {
         unknown: BoardKind::UnknownFpga,
@@ -34,7 +35,8 @@ pub(crate) fn net_listing(fpgas: u32) -> Listing
 
 /// What group lines list on a board with so many nets.
 pub(crate) fn group_listing(nets: u32) -> Listing
-    ensures { (listed : ℕ) (numbers : List ℕ) → list_fault result listed numbers ≡ group_fault nets listed numbers }
+    ensures { (listed : ℕ) (numbers : List ℕ) → list_fault result listed numbers
+        ≡ group_fault nets listed numbers }
 {
     Listing {
         unknown: BoardKind::UnknownNet,

@@ -17,7 +17,8 @@ pub record Fed : Type 0 where
   pub count : ℕ
   pub state : SolutionState
 
--- the reader is not spent, is for this board, and was fed this text: whatever comes, the text says what the reader's state says of that
+-- the reader is not spent, is for this board, and was fed this text: whatever comes, the text says what the
+-- reader's state says of that
 pub record IsAt (reader : Fed) (board : Board) (text : List ℕ) : Type 0 where
   pub kept : reader.spent ≡ false
   pub max : reader.scan.max ≡ largest_number

@@ -74,13 +74,13 @@ fn is_for_trade(done: u32) -> bool {
 }
 
 /// Trades ratios on the trees of a round, where so many were done before, beginning with ratios by the numbers of the nets.
-/// Keeps the solution that is found where its value is less than the best.
+/// Keeps the solution that is found where its value is less than the best. The numbers are let go in any case.
 pub(crate) fn keep_traded(
     alloc: Global,
     problem: &Problem,
     incidence: &Incidence,
     trees: &Trees,
-    numbers: &[u64],
+    numbers: Vec<u64>,
     done: u32,
     best: &mut Best,
 ) -> Result<(), AllocError>
@@ -88,7 +88,7 @@ pub(crate) fn keep_traded(
     requires minimal { AreMinimalTrees problem.now trees.now }
     requires rising { HasRisingRows trees.now }
     requires few { sum_by length trees.now ≤ most_uses }
-    requires count { length numbers.now ≡ length problem.now.nets }
+    requires count { length numbers.items ≡ length problem.now.nets }
     requires best { IsBest problem.now best.old.solution best.old.value best.old.certified }
     ensures best { OnOk result (IsBest problem.now best.new.solution best.new.value best.new.certified) }
     ensures lower { OnOk result (best.new.value ≤ best.old.value) }

@@ -122,7 +122,8 @@ fn all_rounds(
 }
 
 /// Does a round, where so many were done before. Answers whether another may follow: not where its trees have more wires
-/// than may be written, and not where the best value is 0.
+/// than may be written, and not where its shares bring the best value to 0. The trade comes last, when the round has nothing
+/// more in memory than what the next one begins with.
 fn round(
     alloc: Global,
     problem: &Problem,
@@ -178,22 +179,24 @@ fn round(
         &sums,
         &mut running.best,
     )?;
+    if running.best.value == 0 {
+        return Ok(false);
+    }
+    let next = next_weights(alloc, &running.weights, &sums)?;
+    drop(sums);
+    let candidate = candidate_of(alloc, problem, &running.weights, &running.trees, &numbers)?;
+    keep_certificate(alloc, problem, graph, &candidate, &mut running.best)?;
+    running.candidates.add(candidate);
+    running.weights = next;
     keep_traded(
         alloc,
         problem,
         incidence,
         &running.trees,
-        &numbers,
+        numbers,
         done,
         &mut running.best,
     )?;
-    let candidate = candidate_of(alloc, problem, &running.weights, &running.trees, &numbers)?;
-    keep_certificate(alloc, problem, graph, &candidate, &mut running.best)?;
-    running.candidates.add(candidate);
-    if running.best.value == 0 {
-        return Ok(false);
-    }
-    running.weights = next_weights(alloc, &running.weights, &sums)?;
     Ok(true)
 }
 

@@ -39,7 +39,8 @@ pub trait Grammar {
         ensures sizes { OnOk result (sizes self.new ≡ sizes self.old) }
         ensures reads { OnOk result ((done : List Line) (numbers : List ℕ) → reads self.old done
             → 0 < count
-            → (fault ≡ None → (count ≡ length numbers) × holds self.old numbers × All (λ n. n ≤ largest) numbers)
+            → (fault ≡ None → (count ≡ length numbers) × holds self.old numbers
+            × All (λ n. n ≤ largest) numbers)
             → reads self.new (done ++ ended_line line fault numbers ∷ [])) }
         ensures holds { OnOk result (holds self.new []) };
 }

@@ -21,22 +21,22 @@ take_in-requires-clause-root c =
 
 pub returns-then-not-is_empty-clause-obstacle : goal.returns-then-not-is_empty-clause-obstacle
 returns-then-not-is_empty-clause-obstacle c = (
-  all-missing c.args.problem.now c.loop-n.n _ _ _ (omega (arith, c.loop-n-test.false, c.loop-n.auto.n-end, c.nets-n-end.ensures.value)) c.loop-n.invariant,
+  all-missing c.args.problem.now c.loop-n.n _ _ _ (omega (arith, c.loop-n-test.false, c.loop-n.auto.n-end, c.nets-n-end.ensures.value)) c.loop-n.invariant.0,
   some-there _ _ (omega arith) c.if-not-is_empty.ensures,
 )
 
 pub returns-then-progress-gt-MAX_USES-clause-obstacle : goal.returns-then-progress-gt-MAX_USES-clause-obstacle
 returns-then-progress-gt-MAX_USES-clause-obstacle c =
-    all-over c.args.problem.now c.loop-n.n _ _ _ (omega (arith, c.loop-n-test.false, c.loop-n.auto.n-end, c.nets-n-end.ensures.value)) c.loop-n.invariant (none-there _ _ (omega arith) c.if-not-is_empty.ensures) c.if-progress-gt-MAX_USES.true
+    all-over c.args.problem.now c.loop-n.n _ _ _ (omega (arith, c.loop-n-test.false, c.loop-n.auto.n-end, c.nets-n-end.ensures.value)) c.loop-n.invariant.0 (none-there _ _ (omega arith) c.if-not-is_empty.ensures) c.if-progress-gt-MAX_USES.true
 
 pub returns-clause-base : goal.returns-clause-base
 returns-clause-base c =
-    all-base c.args.problem.now c.loop-n.n _ _ _ (omega (arith, c.loop-n-test.false, c.loop-n.auto.n-end, c.nets-n-end.ensures.value)) c.loop-n.invariant (none-there _ _ (omega arith) c.if-not-is_empty.ensures) c.if-progress-gt-MAX_USES.false
+    all-base c.args.problem.now c.loop-n.n _ _ _ (omega (arith, c.loop-n-test.false, c.loop-n.auto.n-end, c.nets-n-end.ensures.value)) c.loop-n.invariant.0 (none-there _ _ (omega arith) c.if-not-is_empty.ensures) c.if-progress-gt-MAX_USES.false
 
 pub returns-clause-few : goal.returns-clause-few
 returns-clause-few c =
-    all-few c.args.problem.now c.loop-n.n _ _ _ (omega (arith, c.loop-n-test.false, c.loop-n.auto.n-end, c.nets-n-end.ensures.value)) c.loop-n.invariant (none-there _ _ (omega arith) c.if-not-is_empty.ensures) c.if-progress-gt-MAX_USES.false
+    all-few c.args.problem.now c.loop-n.n _ _ _ (omega (arith, c.loop-n-test.false, c.loop-n.auto.n-end, c.nets-n-end.ensures.value)) c.loop-n.invariant.0 (none-there _ _ (omega arith) c.if-not-is_empty.ensures) c.if-progress-gt-MAX_USES.false
 
 pub returns-clause-joined : goal.returns-clause-joined
 returns-clause-joined c =
-    all-joined c.args.problem.now c.loop-n.n _ _ _ (omega (arith, c.loop-n-test.false, c.loop-n.auto.n-end, c.nets-n-end.ensures.value)) c.loop-n.invariant (none-there _ _ (omega arith) c.if-not-is_empty.ensures)
+    all-joined c.args.problem.now c.loop-n.n _ _ _ (omega (arith, c.loop-n-test.false, c.loop-n.auto.n-end, c.nets-n-end.ensures.value)) c.loop-n.invariant.0 (none-there _ _ (omega arith) c.if-not-is_empty.ensures)
