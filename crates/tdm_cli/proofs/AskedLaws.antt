@@ -29,12 +29,16 @@ use Rattle.tdm_cli.specs.Asked.{SaidFor, FileFor, RoutingFor, YesOrNo, JudgingFo
 
 -- ---- each outcome that is called for has the status that the files call for
 
-module _ {V R : Type 0} (slot : InSlot) (kind : TextKind Status V R) (Then : V → Outcome Status → Type 0) (For : V → Status → Type 0) (each : (value : V) (outcome : Outcome Status) → Then value outcome → For value outcome.status) where
-  said-for : (said : Result V R) (outcome : Outcome Status) → FromText faults slot kind said Then outcome → SaidFor kind For said outcome.status
+module _ {V R : Type 0} (slot : InSlot) (kind : TextKind Status V R) (Then : V → Outcome Status
+    → Type 0) (For : V → Status → Type 0) (each : (value : V) (outcome : Outcome Status)
+    → Then value outcome → For value outcome.status) where
+  said-for : (said : Result V R) (outcome : Outcome Status) → FromText faults slot kind said Then outcome
+      → SaidFor kind For said outcome.status
   said-for (Ok value) outcome is = each value outcome is
   said-for (Err refusal) outcome is = ap (λ (o : Outcome Status). o.status) is
 
-  pub file-for : (found : Option Bytes) (outcome : Outcome Status) → FromInput faults slot kind (content_of found) Then outcome → FileFor kind For found outcome.status
+  pub file-for : (found : Option Bytes) (outcome : Outcome Status)
+      → FromInput faults slot kind (content_of found) Then outcome → FileFor kind For found outcome.status
   file-for None outcome is = ap (λ (o : Outcome Status). o.status) is
   file-for (Some bytes) outcome is = said-for (kind.says bytes) outcome is
 
@@ -42,45 +46,63 @@ pub first-of : (xs : List ℕ) → 0 < length xs → (x : ℕ) × Contains xs x
 first-of [] h = absurd (omega arith)
 first-of (x ∷ xs) h = (x, (0, omega arith, refl))
 
-routing-for : (board : Board) (rounds : ℕ) (outcome : Outcome Status) → Routes board rounds outcome → RoutingFor board outcome.status
+routing-for : (board : Board) (rounds : ℕ) (outcome : Outcome Status) → Routes board rounds outcome
+    → RoutingFor board outcome.status
 routing-for board rounds outcome (is_unconnectable nets are some is) =
     let net = first-of nets some in
     let apart = (are.exact net.0).0 net.1 in
     subst (λ (o : Outcome Status). RoutingFor board o.status) (sym is) (net.0, apart.0, apart.1)
-routing-for board rounds outcome (is_over_limit over is) = subst (λ (o : Outcome Status). RoutingFor board o.status) (sym is) over
-routing-for board rounds outcome (is_routed routing cert bound improved is) = subst (λ (o : Outcome Status). RoutingFor board o.status) (sym is) (improved.joined, improved.within)
+routing-for board rounds outcome (is_over_limit over is) =
+    subst (λ (o : Outcome Status). RoutingFor board o.status) (sym is) over
+routing-for board rounds outcome (is_routed routing cert bound improved is) =
+    subst (λ (o : Outcome Status). RoutingFor board o.status) (sym is) (improved.joined, improved.within)
 
-judging-for : (board : Board) (routing : Routing) (outcome : Outcome Status) → Judges board routing outcome → JudgingFor board routing outcome.status
-judging-for board routing outcome judges = subst (λ (o : Outcome Status). JudgingFor board routing o.status) (sym judges.is) (by judges.verdict judges.right judges.legal.1)
+judging-for : (board : Board) (routing : Routing) (outcome : Outcome Status) → Judges board routing outcome
+    → JudgingFor board routing outcome.status
+judging-for board routing outcome judges = subst (λ (o : Outcome Status). JudgingFor board routing o.status)
+    (sym judges.is) (by judges.verdict judges.right judges.legal.1)
   where
-    by : (verdict : Verdict) → IsVerdict board routing verdict → (IsLegal board routing → SaysLegal verdict) → JudgingFor board routing (status_of_verdict verdict)
+    by : (verdict : Verdict) → IsVerdict board routing verdict → (IsLegal board routing → SaysLegal verdict)
+        → JudgingFor board routing (status_of_verdict verdict)
     by (Legal value) right legal = inl (refl, right.0)
     by (NotJoined net) right legal = inr (refl, legal)
     by (BadRatio net wire ratio) right legal = inr (refl, legal)
     by (Overfull wire) right legal = inr (refl, legal)
 
-checking-for : (board : Board) (cert : Cert) (outcome : Outcome Status) → Checks board cert outcome → CheckingFor board cert outcome.status
-checking-for board cert outcome checks = subst (λ (o : Outcome Status). CheckingFor board cert o.status) (sym checks.is) (by checks.answer checks.right)
+checking-for : (board : Board) (cert : Cert) (outcome : Outcome Status) → Checks board cert outcome
+    → CheckingFor board cert outcome.status
+checking-for board cert outcome checks = subst (λ (o : Outcome Status). CheckingFor board cert o.status)
+    (sym checks.is) (by checks.answer checks.right)
   where
-    by : (answer : CheckAnswer) → IsAnswer board cert answer → CheckingFor board cert (status_of_answer answer)
+    by : (answer : CheckAnswer) → IsAnswer board cert answer
+        → CheckingFor board cert (status_of_answer answer)
     by (Accepted bound) right = inl (refl, right.0)
     by (Rejected pair) right = inr (refl, first_not_valid board cert pair right)
 
-showing-for : (fpgas nets groups : ℕ) (outcome : Outcome Status) → Demonstrates fpgas nets groups outcome → ShowingFor (generated fpgas nets groups) outcome.status
-showing-for fpgas nets groups outcome (is_too_large over is) = subst (λ (o : Outcome Status). ShowingFor (generated fpgas nets groups) o.status) (sym is) over
-showing-for fpgas nets groups outcome (is_shown routing cert bound improved is) = subst (λ (o : Outcome Status). ShowingFor (generated fpgas nets groups) o.status) (sym is) improved.within
+showing-for : (fpgas nets groups : ℕ) (outcome : Outcome Status) → Demonstrates fpgas nets groups outcome
+    → ShowingFor (generated fpgas nets groups) outcome.status
+showing-for fpgas nets groups outcome (is_too_large over is) =
+    subst (λ (o : Outcome Status). ShowingFor (generated fpgas nets groups) o.status) (sym is) over
+showing-for fpgas nets groups outcome (is_shown routing cert bound improved is) =
+    subst (λ (o : Outcome Status). ShowingFor (generated fpgas nets groups) o.status) (sym is) improved.within
 
-pub status-for : (request : Request) (files : Files) (outcome : Outcome Status) → CallsFor request (contents_in files (inputs_of request)) outcome → StatusFor request files outcome.status
+pub status-for : (request : Request) (files : Files) (outcome : Outcome Status)
+    → CallsFor request (contents_in files (inputs_of request)) outcome
+    → StatusFor request files outcome.status
 status-for (route board solution cert rounds) files outcome calls =
-    file-for In0 boards (λ problem. Routes problem rounds) RoutingFor (λ problem o is. routing-for problem rounds o is) (get files board) outcome calls
+    file-for In0 boards (λ problem. Routes problem rounds) RoutingFor
+    (λ problem o is. routing-for problem rounds o is) (get files board) outcome calls
 status-for (eval board solution) files outcome calls =
     file-for In0 boards _ (λ problem. FileFor (solutions problem) (JudgingFor problem) (get files solution))
-    (λ problem o is. file-for In1 (solutions problem) (λ routing. Judges problem routing) (JudgingFor problem) (judging-for problem) (get files solution) o is) (get files board) outcome calls
+    (λ problem o is. file-for In1 (solutions problem) (λ routing. Judges problem routing) (JudgingFor problem)
+    (judging-for problem) (get files solution) o is) (get files board) outcome calls
 status-for (check board cert) files outcome calls =
     file-for In0 boards _ (λ problem. FileFor (certificates problem) (CheckingFor problem) (get files cert))
-    (λ problem o is. file-for In1 (certificates problem) (λ proof. Checks problem proof) (CheckingFor problem) (checking-for problem) (get files cert) o is) (get files board) outcome calls
+    (λ problem o is. file-for In1 (certificates problem) (λ proof. Checks problem proof) (CheckingFor problem)
+    (checking-for problem) (get files cert) o is) (get files board) outcome calls
 status-for (gen fpgas nets groups board) files outcome calls = ap (λ (o : Outcome Status). o.status) calls.is
-status-for (demo fpgas nets groups solution cert) files outcome calls = showing-for fpgas nets groups outcome calls
+status-for (demo fpgas nets groups solution cert) files outcome calls =
+    showing-for fpgas nets groups outcome calls
 status-for nothing files outcome calls = ap (λ (o : Outcome Status). o.status) calls
 
 -- ---- there is one such status
@@ -92,7 +114,8 @@ OneStatus For = (s t : Status) → For s → For t → s ≡ t
 one-of : (s : Status) → OneStatus (λ answer. answer ≡ s)
 one-of s a b first second = first ∙ sym second
 
-module _ {V R : Type 0} (kind : TextKind Status V R) (For : V → Status → Type 0) (each : (value : V) → OneStatus (For value)) where
+module _ {V R : Type 0} (kind : TextKind Status V R) (For : V → Status → Type 0) (each : (value : V)
+    → OneStatus (For value)) where
   said-one : (said : Result V R) → OneStatus (SaidFor kind For said)
   said-one (Ok value) = each value
   said-one (Err refusal) = one-of kind.status
@@ -108,10 +131,12 @@ routing-one board status.Unconnectable status.Ok h k = absurd (h.2 (k.0 h.0 h.1)
 routing-one board status.Unconnectable _ h k = absurd k
 routing-one board status.UseLimit status.Unconnectable h k = absurd (k.2 (h.joined k.0 k.1))
 routing-one board status.UseLimit status.UseLimit h k = refl
-routing-one board status.UseLimit status.Ok h k = let most = k.1 h.trees h.base in let high = h.over in absurd (omega (arith, most, high))
+routing-one board status.UseLimit status.Ok h k = let most = k.1 h.trees h.base in let high = h.over in
+    absurd (omega (arith, most, high))
 routing-one board status.UseLimit _ h k = absurd k
 routing-one board status.Ok status.Unconnectable h k = absurd (k.2 (h.0 k.0 k.1))
-routing-one board status.Ok status.UseLimit h k = let most = h.1 k.trees k.base in let high = k.over in absurd (omega (arith, most, high))
+routing-one board status.Ok status.UseLimit h k = let most = h.1 k.trees k.base in let high = k.over in
+    absurd (omega (arith, most, high))
 routing-one board status.Ok status.Ok h k = refl
 routing-one board status.Ok _ h k = absurd k
 routing-one board _ t h k = absurd h
@@ -124,9 +149,11 @@ yes-or-no-one Holds so otherwise s t (inr h) (inr k) = h.0 ∙ sym k.0
 
 showing-one : (board : Board) → OneStatus (ShowingFor board)
 showing-one board status.UseLimit status.UseLimit h k = refl
-showing-one board status.UseLimit status.Ok h k = let most = k h.trees h.base in let high = h.over in absurd (omega (arith, most, high))
+showing-one board status.UseLimit status.Ok h k = let most = k h.trees h.base in let high = h.over in
+    absurd (omega (arith, most, high))
 showing-one board status.UseLimit _ h k = absurd k
-showing-one board status.Ok status.UseLimit h k = let most = h k.trees k.base in let high = k.over in absurd (omega (arith, most, high))
+showing-one board status.Ok status.UseLimit h k = let most = h k.trees k.base in let high = k.over in
+    absurd (omega (arith, most, high))
 showing-one board status.Ok status.Ok h k = refl
 showing-one board status.Ok _ h k = absurd k
 showing-one board _ t h k = absurd h

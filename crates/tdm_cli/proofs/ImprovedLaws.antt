@@ -24,8 +24,12 @@ use Rattle.tdm_cli.specs.Routing.{IsBaselineValue}
 use Rattle.tdm_cli.proofs.BaselineLaws.{base-trees-for, base-minimal-each, base-trees-unique}
 
 -- baseline trees are minimal
-pub base-minimal : (board : Board) → IsBoard board → (trees : List (List ℕ)) → AreBaseTrees board trees → AreMinimalTrees board trees
-base-minimal board is trees base = record { for_board = base-trees-for board is trees base; minimal = base-minimal-each board is trees base }
+pub base-minimal : (board : Board) → IsBoard board → (trees : List (List ℕ)) → AreBaseTrees board trees
+    → AreMinimalTrees board trees
+base-minimal board is trees base = record {
+  for_board = base-trees-for board is trees base;
+  minimal = base-minimal-each board is trees base;
+}
 
 -- the certificate is a proof whose bound is at least both floors
 abbrev IsFloored : Board → Cert → Type 0
@@ -50,12 +54,17 @@ best-floored board cert best = by best.better
     )
 
 -- the baseline has the baseline's value
-baseline-value : (board : Board) (routing : Routing) → IsBaseline board routing → (value : ℕ) → IsBaselineValue board value → value_of board routing ≡ value
+baseline-value : (board : Board) (routing : Routing) → IsBaseline board routing → (value : ℕ)
+    → IsBaselineValue board value → value_of board routing ≡ value
 baseline-value board routing baseline value is =
-    ap (value_of board) (baseline.uniform ∙ ap (uniform_routing board) (base-trees-unique board (trees_of routing) is.0 baseline.base is.1)) ∙ sym is.2
+    ap (value_of board) (baseline.uniform
+    ∙ ap (uniform_routing board) (base-trees-unique board (trees_of routing) is.0 baseline.base is.1))
+    ∙ sym is.2
 
 -- the baseline and the better of two certificates may be written
-pub IsBest-baseline : (board : Board) (routing : Routing) (value : ℕ) (certified : Certified) → IsBaseline board routing → IsBestCert board certified.cert → value ≡ value_of board routing → certified.bound ≡ bound_of board certified.cert → IsBest board routing value certified
+pub IsBest-baseline : (board : Board) (routing : Routing) (value : ℕ) (certified : Certified)
+    → IsBaseline board routing → IsBestCert board certified.cert → value ≡ value_of board routing
+    → certified.bound ≡ bound_of board certified.cert → IsBest board routing value certified
 IsBest-baseline board routing value certified baseline best value_is bound_is =
     let floored = best-floored board certified.cert best in
     let proof = floored.0 in
@@ -80,15 +89,21 @@ IsBest-baseline board routing value certified baseline best value_is bound_is =
     }
 
 -- what was improved by so many rounds from the baseline's trees
-pub IsImproved-rounds : (board : Board) (trees : List (List ℕ)) (count : ℕ) (routing : Routing) (value : ℕ) (certified : Certified) → AllConnectable board → AreBaseTrees board trees → sum_by length trees ≤ most_uses → IsBest board routing value certified → IsTight board routing → (0 < value → MeetsRounds board trees count value certified.bound) → IsImproved board count routing certified.cert certified.bound
+pub IsImproved-rounds : (board : Board) (trees : List (List ℕ)) (count : ℕ) (routing : Routing) (value : ℕ)
+    (certified : Certified) → AllConnectable board → AreBaseTrees board trees
+    → sum_by length trees ≤ most_uses → IsBest board routing value certified → IsTight board routing
+    → (0 < value → MeetsRounds board trees count value certified.bound)
+    → IsImproved board count routing certified.cert certified.bound
 IsImproved-rounds board trees count routing value certified joined base few best tight met = record {
   joined = joined;
-  within = λ others other. subst (λ ts. sum_by length ts ≤ most_uses) (base-trees-unique board trees others base other) few;
+  within = λ others other. subst (λ ts. sum_by length ts ≤ most_uses)
+      (base-trees-unique board trees others base other) few;
   may_be_written = best.may_be_written;
   tight = tight;
   rounds = λ positive. (
     trees,
     base,
-    subst (λ v. MeetsRounds board trees count v certified.bound) best.value_is (met (omega (arith, positive, best.value_is))),
+    subst (λ v. MeetsRounds board trees count v certified.bound) best.value_is
+        (met (omega (arith, positive, best.value_is))),
   );
 }

@@ -26,18 +26,28 @@ use Rattle.tdm_cli.proofs.TextLaws.{within-limit}
 use Rattle.tdm_cli.proofs.EndedLaws.{ended-own}
 
 -- a file that is within the limit was read to its end
-read-out : (slot : InSlot) (limit : ℕ) (name : Name) (bytes : Bytes) (before after : Seen) → WasRead slot limit name before after → ForSome (files_of before) (λ files. get files name ≡ Some bytes) → length bytes ≤ limit → IsReadOut after slot
+read-out : (slot : InSlot) (limit : ℕ) (name : Name) (bytes : Bytes) (before after : Seen)
+    → WasRead slot limit name before after → ForSome (files_of before) (λ files. get files name ≡ Some bytes)
+    → length bytes ≤ limit → IsReadOut after slot
 unfolding bytes_under
-read-out slot limit name bytes before after read held short = record { is_open = read.is_open; empty = by (files_of before) refl }
+read-out slot limit name bytes before after read held short = record {
+  is_open = read.is_open;
+  empty = by (files_of before) refl;
+}
   where
     by : (files : Option Files) → files_of before ≡ files → ForSome (rest_of slot after) (λ rest. rest ≡ [])
     by None told = λ rest is. absurd (
-        let e : ◌≡◌ {A = Option Bytes} None (Some rest) = sym (read.rest ∙ ap (option_map (λ files. drop (limit + 1) (bytes_under name files))) told) ∙ is in cc
+        let e : ◌≡◌ {A = Option Bytes} None (Some rest) =
+        sym (read.rest ∙ ap (option_map (λ files. drop (limit + 1) (bytes_under name files))) told)
+        ∙ is in cc
         )
     by (Some files) told = λ rest is.
-        let e : ◌≡◌ {A = Option Bytes} (Some (drop (limit + 1) (bytes_under name files))) (Some rest) = sym (read.rest ∙ ap (option_map (λ files. drop (limit + 1) (bytes_under name files))) told) ∙ is in
+        let e : ◌≡◌ {A = Option Bytes} (Some (drop (limit + 1) (bytes_under name files))) (Some rest) =
+        sym (read.rest ∙ ap (option_map (λ files. drop (limit + 1) (bytes_under name files))) told)
+        ∙ is in
         let same : drop (limit + 1) (bytes_under name files) ≡ rest = cc (e) in
-        sym same ∙ ap (λ found. drop (limit + 1) (unwrap_or found [])) (held files told) ∙ drop_all (limit + 1) bytes (omega (arith, short))
+        sym same ∙ ap (λ found. drop (limit + 1) (unwrap_or found [])) (held files told)
+        ∙ drop_all (limit + 1) bytes (omega (arith, short))
 
 -- each content is a text within the limit of its input
 abbrev AreWithin : List Input → List Content → Type 0
@@ -50,19 +60,24 @@ abbrev AreNear : ℕ → List Input → Type 0
 AreNear last [] = Unit {0}
 AreNear last (input ∷ inputs) = (place input.slot ≤ last) × AreNear last inputs
 
-all-read : (opened : ℕ) (failed : Option InSlot) (before after : Seen) (inputs : List Input) (contents : List Content) → HoldEach opened failed inputs contents before after → AreWithin inputs contents → AreNear opened inputs → AreReadOut after inputs
+all-read : (opened : ℕ) (failed : Option InSlot) (before after : Seen) (inputs : List Input)
+    (contents : List Content) → HoldEach opened failed inputs contents before after
+    → AreWithin inputs contents → AreNear opened inputs → AreReadOut after inputs
 all-read opened failed before after [] contents held within near = tt
 all-read opened failed before after (input ∷ inputs) [] held within near = absurd held
 all-read opened failed before after (input ∷ inputs) (no_file ∷ contents) held within near = absurd within
 all-read opened failed before after (input ∷ inputs) (unreadable ∷ contents) held within near = absurd within
-all-read opened failed before after (input ∷ inputs) (text bytes ∷ contents) held within near =
-    (read-out input.slot input.limit input.name bytes before after (held.0.1 near.0) held.0.0 within.0, all-read opened failed before after inputs contents held.1 within.1 near.1)
+all-read opened failed before after (input ∷ inputs) (text bytes ∷ contents) held within near = (
+  read-out input.slot input.limit input.name bytes before after (held.0.1 near.0) held.0.0 within.0,
+  all-read opened failed before after inputs contents held.1 within.1 near.1,
+)
 
 -- at Ok the text of each of these inputs is within the limit
 abbrev IsShort : List Input → List Content → Outcome Status → Type 0
 IsShort inputs contents outcome = outcome.status ≡ status.Ok → AreWithin inputs contents
 
-none-short : (Is : Outcome Status → Type 0) (contents : List Content) (outcome : Outcome Status) → ByNone Is contents outcome → IsShort [] contents outcome
+none-short : (Is : Outcome Status → Type 0) (contents : List Content) (outcome : Outcome Status)
+    → ByNone Is contents outcome → IsShort [] contents outcome
 none-short Is [] outcome is = λ ok. tt
 none-short Is (content ∷ contents) outcome is = absurd is
 
@@ -70,18 +85,28 @@ none-short Is (content ∷ contents) outcome is = absurd is
 input-short : (input : Input) (inputs : List Input) {V R : Type 0} (kind : TextKind Status V R)
     → kind.status ≢ status.Ok → ((bytes : Bytes) (value : V) → kind.says bytes ≡ Ok value
     → length bytes ≤ input.limit)
-    → (Then : V → List Content → Outcome Status → Type 0) → ((value : V) (contents : List Content) (outcome : Outcome Status) → Then value contents outcome → IsShort inputs contents outcome)
-    → (contents : List Content) (outcome : Outcome Status) → ByInput faults input.slot kind Then contents outcome → IsShort (input ∷ inputs) contents outcome
-input-short input inputs kind refusal within Then each = by-input faults input.slot kind Then (IsShort (input ∷ inputs))
+    → (Then : V → List Content → Outcome Status → Type 0)
+    → ((value : V) (contents : List Content) (outcome : Outcome Status) → Then value contents outcome
+    → IsShort inputs contents outcome)
+    → (contents : List Content) (outcome : Outcome Status)
+    → ByInput faults input.slot kind Then contents outcome → IsShort (input ∷ inputs) contents outcome
+input-short input inputs kind refusal within Then each =
+    by-input faults input.slot kind Then (IsShort (input ∷ inputs))
     (λ rest e. cc) (λ rest e. cc) (λ bytes refused rest says e. absurd (refusal e))
     (λ bytes value rest outcome says then e. (within bytes value says, each value rest outcome then e))
 
-board-short : (name : Name) (inputs : List Input) (Then : Board → List Content → Outcome Status → Type 0) → ((problem : Board) (contents : List Content) (outcome : Outcome Status) → Then problem contents outcome → IsShort inputs contents outcome)
-    → (contents : List Content) (outcome : Outcome Status) → ByInput faults In0 boards Then contents outcome → IsShort (board_input name ∷ inputs) contents outcome
-board-short name inputs = input-short (board_input name) inputs boards (λ e. cc) (λ bytes problem says. within-limit (2 ^ 28) (length bytes) _ _ problem says)
+board-short : (name : Name) (inputs : List Input) (Then : Board → List Content → Outcome Status → Type 0)
+    → ((problem : Board) (contents : List Content) (outcome : Outcome Status) → Then problem contents outcome
+    → IsShort inputs contents outcome)
+    → (contents : List Content) (outcome : Outcome Status) → ByInput faults In0 boards Then contents outcome
+    → IsShort (board_input name ∷ inputs) contents outcome
+board-short name inputs = input-short (board_input name) inputs boards (λ e. cc)
+    (λ bytes problem says. within-limit (2 ^ 28) (length bytes) _ _ problem says)
 
-short : (request : Request) (contents : List Content) (outcome : Outcome Status) → CallsFor request contents outcome → IsShort (inputs_of request) contents outcome
-short (route board solution cert rounds) = board-short board [] (λ problem. ByNone (Routes problem rounds)) (λ problem. none-short (Routes problem rounds))
+short : (request : Request) (contents : List Content) (outcome : Outcome Status)
+    → CallsFor request contents outcome → IsShort (inputs_of request) contents outcome
+short (route board solution cert rounds) = board-short board [] (λ problem. ByNone (Routes problem rounds))
+    (λ problem. none-short (Routes problem rounds))
 short (eval board solution) = board-short board (solution_input solution ∷ []) JudgesNext
     (λ problem. input-short (solution_input solution) [] (solutions problem) (λ e. cc)
     (λ bytes solved says. within-limit (2 ^ 30) (length bytes) _ _ solved says)
@@ -94,7 +119,8 @@ short (gen fpgas nets groups board) = none-short (Generates fpgas nets groups)
 short (demo fpgas nets groups solution cert) = none-short (Demonstrates fpgas nets groups)
 short nothing = none-short (λ outcome. outcome ≡ refused_words)
 
-near : (request : Request) (opened : ℕ) → length (inputs_of request) ≤ opened → AreNear opened (inputs_of request)
+near : (request : Request) (opened : ℕ) → length (inputs_of request) ≤ opened
+    → AreNear opened (inputs_of request)
 near (route board solution cert rounds) opened all = (omega (arith, all), tt)
 near (eval board solution) opened all = (omega (arith, all), (omega (arith, all), tt))
 near (check board cert) opened all = (omega (arith, all), (omega (arith, all), tt))
@@ -102,7 +128,14 @@ near (gen fpgas nets groups board) opened all = tt
 near (demo fpgas nets groups solution cert) opened all = tt
 near nothing opened all = tt
 
-pub run-read : {D : Type 0} (counts : D → Counts) (steady : D → Type 0) (seen : D → Seen) (request : Request) (before after : D) (answer : Status) → RunEnds counts steady seen faults (inputs_of request) (outputs_of request) (CallsFor request) before after answer → answer ≡ status.Ok → AreReadOut (seen after) (inputs_of request)
-run-read counts steady seen request before after answer ends ok = ended-own counts steady seen request before after answer ends (subst IsOutsideFault ok) (AreReadOut (seen after) (inputs_of request))
-    (λ outcome came put kept decided. all-read outcome.opened outcome.unread (seen before) (seen after) (inputs_of request) came.contents came.held
-    (short request came.contents outcome came.called (sym put.stands ∙ ok)) (near request outcome.opened (decided.reached (sym put.stands ∙ ok))))
+pub run-read : {D : Type 0} (counts : D → Counts) (steady : D → Type 0) (seen : D → Seen) (request : Request)
+    (before after : D) (answer : Status)
+    → RunEnds counts steady seen faults (inputs_of request) (outputs_of request) (CallsFor request) before
+    after answer → answer ≡ status.Ok → AreReadOut (seen after) (inputs_of request)
+run-read counts steady seen request before after answer ends ok =
+    ended-own counts steady seen request before after answer ends (subst IsOutsideFault ok)
+    (AreReadOut (seen after) (inputs_of request))
+    (λ outcome came put kept decided. all-read outcome.opened outcome.unread (seen before) (seen after)
+    (inputs_of request) came.contents came.held
+    (short request came.contents outcome came.called (sym put.stands ∙ ok))
+    (near request outcome.opened (decided.reached (sym put.stands ∙ ok))))

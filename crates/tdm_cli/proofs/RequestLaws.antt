@@ -46,31 +46,48 @@ letter (first ∷ rest) = first
 -- what is asked for is a command, whose word is the first, or nothing
 some-command : (words : List Name) (request : Request) → Asks words request → ¬ IsNothing request
     → IsCommand words × (first-of words ≡ word-of request)
-some-command words (route board solution cert rounds) asks some = (is_route board solution cert rounds asks, ap first-of asks.words_are)
+some-command words (route board solution cert rounds) asks some = (
+  is_route board solution cert rounds asks,
+  ap first-of asks.words_are,
+)
 some-command words (eval board solution) asks some = (is_eval board solution asks, ap first-of asks.words_are)
 some-command words (check board cert) asks some = (is_check board cert asks, ap first-of asks.words_are)
-some-command words (gen fpgas nets groups board) asks some = (is_gen fpgas nets groups board asks, ap first-of asks.words_are)
-some-command words (demo fpgas nets groups solution cert) asks some = (is_demo fpgas nets groups solution cert asks, ap first-of asks.words_are)
+some-command words (gen fpgas nets groups board) asks some = (
+  is_gen fpgas nets groups board asks,
+  ap first-of asks.words_are,
+)
+some-command words (demo fpgas nets groups solution cert) asks some =
+    (is_demo fpgas nets groups solution cert asks, ap first-of asks.words_are)
 some-command words nothing asks some = absurd (some tt)
 
 one-request : (words : List Name) (a b : Request) → Asks words a → Asks words b → a ≡ b
-one-request words (route a b c m) (route d e f n) one two = let same = route-is words a b c m d e f n one two in cc (same.0, same.1, same.2, same.3)
-one-request words (eval a b) (eval d e) one two = let same = names-are (codes "eval") words a b d e one two in cc (same.0, same.1)
-one-request words (check a b) (check d e) one two = let same = names-are (codes "check") words a b d e one two in cc (same.0, same.1)
-one-request words (gen k l m a) (gen p q r d) one two = let same = gen-is words k l m a p q r d one two in cc (same.0, same.1, same.2, same.3)
-one-request words (demo k l m a b) (demo p q r d e) one two = let same = demo-is words k l m a b p q r d e one two in cc (same.0, same.1, same.2, same.3, same.4)
+one-request words (route a b c m) (route d e f n) one two = let same =
+    route-is words a b c m d e f n one two in cc (same.0, same.1, same.2, same.3)
+one-request words (eval a b) (eval d e) one two = let same = names-are (codes "eval") words a b d e one two in
+    cc (same.0, same.1)
+one-request words (check a b) (check d e) one two = let same =
+    names-are (codes "check") words a b d e one two in cc (same.0, same.1)
+one-request words (gen k l m a) (gen p q r d) one two = let same = gen-is words k l m a p q r d one two in
+    cc (same.0, same.1, same.2, same.3)
+one-request words (demo k l m a b) (demo p q r d e) one two = let same =
+    demo-is words k l m a b p q r d e one two in cc (same.0, same.1, same.2, same.3, same.4)
 one-request words nothing nothing one two = refl
 one-request words nothing b one two = absurd (one (some-command words b two (λ none. none)).0)
 one-request words a nothing one two = absurd (two (some-command words a one (λ none. none)).0)
 one-request words a b one two =
-    let e : letter (word-of a) ≡ letter (word-of b) = ap letter (sym (some-command words a one (λ none. none)).1 ∙ (some-command words b two (λ none. none)).1) in
+    let e : letter (word-of a) ≡ letter (word-of b) =
+    ap letter (sym (some-command words a one (λ none. none)).1
+    ∙ (some-command words b two (λ none. none)).1) in
     absurd (omega (arith, e))
 
 -- what holds of one request that the words ask for holds of each
-pub asked : (words : List Name) (P : Request → Type 0) → ((request : Request) × Asks words request × P request) → (request : Request) → Asks words request → P request
+pub asked : (words : List Name) (P : Request → Type 0)
+    → ((request : Request) × Asks words request × P request) → (request : Request) → Asks words request
+    → P request
 asked words P found request asks = subst P (one-request words found.0 request found.1 asks) found.2
 
-pub nothing-asked : (words : List Name) (request : Request) → Asks words request → IsNothing request → ¬ IsCommand words
+pub nothing-asked : (words : List Name) (request : Request) → Asks words request → IsNothing request
+    → ¬ IsCommand words
 nothing-asked words nothing asks none = asks
 nothing-asked words _ asks none = absurd none
 
@@ -91,10 +108,12 @@ few-texts : (request : Request) (contents : List Content) (outcome : Outcome Sta
 few-texts request contents outcome calls = by (fair request contents outcome calls)
   where
     by : IsFair request outcome → length outcome.texts ≤ length (outputs_of request)
-    by (inl (slot, near, is)) = subst (λ (o : Outcome Status). length o.texts ≤ length (outputs_of request)) (sym is) (omega arith)
+    by (inl (slot, near, is)) = subst (λ (o : Outcome Status). length o.texts ≤ length (outputs_of request))
+        (sym is) (omega arith)
     by (inr decided) = texts decided.silent
       where
-        texts : (outcome.status ≡ status.Ok) ⊎ (outcome.texts ≡ []) → length outcome.texts ≤ length (outputs_of request)
+        texts : (outcome.status ≡ status.Ok) ⊎ (outcome.texts ≡ [])
+            → length outcome.texts ≤ length (outputs_of request)
         texts (inl ok) = omega (arith, decided.written ok)
         texts (inr none) = subst (λ ts. length ts ≤ length (outputs_of request)) (sym none) (omega arith)
 

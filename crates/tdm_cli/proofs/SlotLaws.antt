@@ -30,12 +30,16 @@ no-names texts None = refl
 no-names [] (Some files) = refl
 no-names (text ∷ texts) (Some files) = refl
 
-module _ {D : Type 0} (counts : D → Counts) (steady : D → Type 0) (seen : D → Seen) (request : Request) (before after : D) (answer : Status) where
+module _ {D : Type 0} (counts : D → Counts) (steady : D → Type 0) (seen : D → Seen) (request : Request)
+    (before after : D) (answer : Status) where
   abbrev Ends : Type 0
-  Ends = RunEnds counts steady seen faults (inputs_of request) (outputs_of request) (CallsFor request) before after answer
+  Ends = RunEnds counts steady seen faults (inputs_of request) (outputs_of request) (CallsFor request) before
+      after answer
 
-  fair-opened : (outcome : Outcome Status) → IsFair request outcome → outcome.opened ≤ length (inputs_of request)
-  fair-opened outcome (inl (slot, near, is)) = subst (λ (o : Outcome Status). o.opened ≤ length (inputs_of request)) (sym is) near
+  fair-opened : (outcome : Outcome Status) → IsFair request outcome
+      → outcome.opened ≤ length (inputs_of request)
+  fair-opened outcome (inl (slot, near, is)) =
+      subst (λ (o : Outcome Status). o.opened ≤ length (inputs_of request)) (sym is) near
   fair-opened outcome (inr decided) = decided.opened
 
   writes-nothing : Ends → answer ≢ status.Ok → answer ≢ status.WriteFault → answer ≢ status.OutOfMemory
@@ -47,14 +51,22 @@ module _ {D : Type 0} (counts : D → Counts) (steady : D → Type 0) (seen : D 
       (λ is failed. absurd (no_write is))
       (λ u is own. absurd (no_memory is))
     where
-      none : (outcome : Outcome Status) → (outcome.status ≡ status.Ok) ⊎ (outcome.texts ≡ []) → answer ≡ outcome.status → outcome.texts ≡ []
+      none : (outcome : Outcome Status) → (outcome.status ≡ status.Ok) ⊎ (outcome.texts ≡ [])
+          → answer ≡ outcome.status → outcome.texts ≡ []
       none outcome (inl ok) stands = absurd (not_ok (stands ∙ ok))
       none outcome (inr is) stands = is
 
-      by : (outcome : Outcome Status) → IsPutOut counts steady seen faults (outputs_of request) outcome.texts outcome.report outcome.status outcome.unread before after answer → KeepsOutputsBehind (length outcome.texts) (seen before) (seen after) → outcome.texts ≡ [] → WritesNothing (seen before) (seen after)
+      by : (outcome : Outcome Status)
+          → IsPutOut counts steady seen faults (outputs_of request) outcome.texts outcome.report
+          outcome.status outcome.unread before after answer
+          → KeepsOutputsBehind (length outcome.texts) (seen before) (seen after) → outcome.texts ≡ []
+          → WritesNothing (seen before) (seen after)
       by outcome put kept is = record {
-        files = put.left.files ∙ ap (λ ts. option_map (with_files (outputs_of request) ts) (files_of (seen before))) is ∙ same (outputs_of request) (files_of (seen before));
-        outputs = λ slot. subst (λ ts. KeepsOutputsBehind (length ts) (seen before) (seen after)) is kept slot (out-positive slot);
+        files = put.left.files
+            ∙ ap (λ ts. option_map (with_files (outputs_of request) ts) (files_of (seen before))) is
+            ∙ same (outputs_of request) (files_of (seen before));
+        outputs = λ slot. subst (λ ts. KeepsOutputsBehind (length ts) (seen before) (seen after)) is kept slot
+            (out-positive slot);
       }
 
   -- a request without outputs changes no file
@@ -62,11 +74,18 @@ module _ {D : Type 0} (counts : D → Counts) (steady : D → Type 0) (seen : D 
   kept-files (inr wanting) none = wanting.only.files
   kept-files (inl ends) none = by ends.ends
     where
-      left : (texts : List Bytes) (report : Bytes) → Leaves (seen before) (seen after) (outputs_of request) texts report → files_of (seen after) ≡ files_of (seen before)
-      left texts report it = it.files ∙ ap (λ names. option_map (with_files names texts) (files_of (seen before))) none ∙ no-names texts (files_of (seen before))
+      left : (texts : List Bytes) (report : Bytes)
+          → Leaves (seen before) (seen after) (outputs_of request) texts report
+          → files_of (seen after) ≡ files_of (seen before)
+      left texts report it = it.files
+          ∙ ap (λ names. option_map (with_files names texts) (files_of (seen before))) none
+          ∙ no-names texts (files_of (seen before))
 
-      by : IsPutOut counts steady seen faults (outputs_of request) ends.outcome.texts ends.outcome.report ends.outcome.status ends.outcome.unread before after answer
-          ⊎ IsCutOff counts steady seen faults (outputs_of request) ends.outcome.texts ends.outcome.report ends.outcome.status ends.outcome.unread before after answer → files_of (seen after) ≡ files_of (seen before)
+      by : IsPutOut counts steady seen faults (outputs_of request) ends.outcome.texts ends.outcome.report
+          ends.outcome.status ends.outcome.unread before after answer
+          ⊎ IsCutOff counts steady seen faults (outputs_of request) ends.outcome.texts ends.outcome.report
+          ends.outcome.status ends.outcome.unread before after answer
+          → files_of (seen after) ≡ files_of (seen before)
       by (inl put) = left _ _ put.left
       by (inr cut) = left _ _ cut.left
 

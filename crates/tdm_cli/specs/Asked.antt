@@ -1,4 +1,5 @@
--- The status that a request calls for by the files when it began, where nothing outside fails and memory is there.
+-- The status that a request calls for by the files when it began, where nothing outside fails and memory is
+-- there.
 use Rattle.std.specs.Prelude.{◌≡◌, ◌⊎◌, ◌<◌, ℕ, length, Option, Some, None, Result, Ok, Err}
 use Rattle.std.specs.FinMap.{get}
 use Rattle.tdm_desk.specs.Files.{Bytes, Files}
@@ -17,12 +18,14 @@ use Rattle.tdm_cli.specs.Kinds.{boards, solutions, certificates}
 use Rattle.tdm_cli.specs.Request.{Request, route, eval, check, gen, demo, nothing}
 
 -- a text decides where it is refused, and else what follows from what it says
-abbrev pub SaidFor : {V R : Type 0} → TextKind Status V R → (V → Status → Type 0) → Result V R → Status → Type 0
+abbrev pub SaidFor : {V R : Type 0} → TextKind Status V R → (V → Status → Type 0) → Result V R → Status
+    → Type 0
 SaidFor kind Then (Ok value) answer = Then value answer
 SaidFor kind Then (Err refusal) answer = answer ≡ kind.status
 
 -- a file decides where there is none or it is refused, and else what follows from what it says
-abbrev pub FileFor : {V R : Type 0} → TextKind Status V R → (V → Status → Type 0) → Option Bytes → Status → Type 0
+abbrev pub FileFor : {V R : Type 0} → TextKind Status V R → (V → Status → Type 0) → Option Bytes → Status
+    → Type 0
 FileFor kind Then None answer = answer ≡ status.NoInput
 FileFor kind Then (Some bytes) answer = SaidFor kind Then (kind.says bytes) answer
 
@@ -59,9 +62,11 @@ ShowingFor board _ = ⊥
 abbrev pub StatusFor : Request → Files → Status → Type 0
 StatusFor (route board solution cert rounds) files = FileFor boards RoutingFor (get files board)
 StatusFor (eval board solution) files =
-    FileFor boards (λ problem. FileFor (solutions problem) (JudgingFor problem) (get files solution)) (get files board)
+    FileFor boards (λ problem. FileFor (solutions problem) (JudgingFor problem) (get files solution))
+    (get files board)
 StatusFor (check board cert) files =
-    FileFor boards (λ problem. FileFor (certificates problem) (CheckingFor problem) (get files cert)) (get files board)
+    FileFor boards (λ problem. FileFor (certificates problem) (CheckingFor problem) (get files cert))
+    (get files board)
 StatusFor (gen fpgas nets groups board) files = λ answer. answer ≡ status.Ok
 StatusFor (demo fpgas nets groups solution cert) files = ShowingFor (generated fpgas nets groups)
 StatusFor nothing files = λ answer. answer ≡ status.Usage

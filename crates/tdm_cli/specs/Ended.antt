@@ -62,9 +62,11 @@ pub record TellsFaults {D : Type 0} (counts : D → Counts) (before after : D) (
   pub uncounted : ¬ IsOutsideFault answer → counts after ≡ counts before
 
 -- an input of the request failed and was counted once, no other count rose, and it was reported
-pub record ReportsReadFault {D : Type 0} (counts : D → Counts) (steady : D → Type 0) (seen : D → Seen) (request : Request) (before after : D) : Type 0 where
+pub record ReportsReadFault {D : Type 0} (counts : D → Counts) (steady : D → Type 0) (seen : D
+    → Seen) (request : Request) (before after : D) : Type 0 where
   pub slot : InSlot
   pub asked : place slot ≤ length (inputs_of request)
   pub failed : ReadingFailed counts steady slot before after
   pub own : counts after ≡ read_counted slot (counts before)
-  pub said : said_of (seen after) ≡ option_map (λ s. s ++ read_fault_report (place slot)) (said_of (seen before))
+  pub said : said_of (seen after) ≡ option_map (λ s. s ++ read_fault_report (place slot))
+      (said_of (seen before))

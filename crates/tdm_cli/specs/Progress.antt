@@ -20,8 +20,10 @@ pub record AreBasedSoFar (board : Board) (nets : ℕ) (trees : List (List ℕ)) 
   pub within : used ≤ MAX_USES → (used ≡ sum_by length all) × (trees ≡ all)
   pub over : MAX_USES < used → MAX_USES < sum_by length all
 
--- of the first nets the missing ones are those that no wires join; where none is missing, they have baseline trees
-pub record IsProgress (board : Board) (nets : ℕ) (trees : List (List ℕ)) (used : ℕ) (missing : List ℕ) : Type 0 where
+-- of the first nets the missing ones are those that no wires join; where none is missing, they have baseline
+-- trees
+pub record IsProgress (board : Board) (nets : ℕ) (trees : List (List ℕ)) (used : ℕ)
+    (missing : List ℕ) : Type 0 where
   pub limit : length board.nets ≤ most_nets
   pub few : length trees ≤ nets
   pub rising : IsStrictlyIncreasing missing

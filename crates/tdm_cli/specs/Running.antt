@@ -12,14 +12,20 @@ pub record AreWeights (board : Board) (weights : List ℕ) : Type 0 where
   pub positive : All (λ weight. 1 ≤ weight) weights
   pub limited : All (λ weight. weight ≤ most_weight) weights
 
--- a round that fits led from these weights and trees to those, the value and the bound meet it, and the candidate is of it
-pub record IsWent (board : Board) (weights : List ℕ) (before : List (List ℕ)) (next : List ℕ) (trees : List (List ℕ)) (value bound : ℕ) (last : Option Candidate) : Type 0 where
+-- a round that fits led from these weights and trees to those, the value and the bound meet it, and the
+-- candidate is of it
+pub record IsWent (board : Board) (weights : List ℕ) (before : List (List ℕ)) (next : List ℕ)
+    (trees : List (List ℕ)) (value bound : ℕ) (last : Option Candidate) : Type 0 where
   pub numbers : List ℕ
   pub reroutes : Reroutes board before (record { weights = weights; numbers = numbers; trees = trees })
   pub fits : FitsUses (record { weights = weights; numbers = numbers; trees = trees })
   pub next_is : next ≡ next_of board (record { weights = weights; numbers = numbers; trees = trees })
   pub met : IsMet board value bound (record { weights = weights; numbers = numbers; trees = trees })
-  pub last_is : MatchOption last ⊥ (IsOfRound board (record { weights = weights; numbers = numbers; trees = trees }))
+  pub last_is : MatchOption last ⊥ (IsOfRound board (record {
+    weights = weights;
+    numbers = numbers;
+    trees = trees;
+  }))
 
 -- a round from these weights and trees does not fit
 pub record IsEnded (board : Board) (weights : List ℕ) (before : List (List ℕ)) : Type 0 where
@@ -28,9 +34,11 @@ pub record IsEnded (board : Board) (weights : List ℕ) (before : List (List ℕ
   pub reroutes : Reroutes board before round
   pub over : ¬ FitsUses round
 
--- there is one list of so many rounds from these weights and trees that the value and the bound both meet, and the candidate
+-- there is one list of so many rounds from these weights and trees that the value and the bound both meet,
+-- and the candidate
 -- is of the last of them that fits
-pub record MeetsFrom (board : Board) (count : ℕ) (weights : List ℕ) (before : List (List ℕ)) (value bound : ℕ) (last : Option Candidate) : Type 0 where
+pub record MeetsFrom (board : Board) (count : ℕ) (weights : List ℕ) (before : List (List ℕ)) (value bound : ℕ)
+    (last : Option Candidate) : Type 0 where
   pub rounds : List Round
   pub list : AreRounds board count weights before rounds
   pub met : All (IsMet board value bound) rounds

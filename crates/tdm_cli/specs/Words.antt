@@ -28,7 +28,8 @@ AskRounds [] rounds = rounds ≡ usual_rounds
 AskRounds (word ∷ []) rounds = IsNumber most_rounds word rounds
 AskRounds _ rounds = ⊥
 
--- the words are `route BOARD SOLUTION CERT`, or these and a number of rounds, each name of at least one byte, and the
+-- the words are `route BOARD SOLUTION CERT`, or these and a number of rounds, each name of at least one byte,
+-- and the
 -- outputs two files
 pub record IsRoute (words : List (List ℕ)) (board solution cert : List ℕ) (rounds : ℕ) : Type 0 where
   pub further : List (List ℕ)
@@ -78,7 +79,8 @@ pub record IsDemo (words : List (List ℕ)) (fpgas nets groups : ℕ) (solution 
 
 -- the words are one of the lists that the program knows
 pub data IsCommand (words : List (List ℕ)) : Type 0 where
-  is_route : (board solution cert : List ℕ) (rounds : ℕ) → IsRoute words board solution cert rounds → IsCommand words
+  is_route : (board solution cert : List ℕ) (rounds : ℕ) → IsRoute words board solution cert rounds
+      → IsCommand words
   is_eval : (board solution : List ℕ) → IsEval words board solution → IsCommand words
   is_check : (board cert : List ℕ) → IsCheck words board cert → IsCommand words
   is_gen : (fpgas nets groups : ℕ) (board : List ℕ) → IsGen words fpgas nets groups board → IsCommand words

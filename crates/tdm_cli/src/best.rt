@@ -52,7 +52,8 @@ pub(crate) fn keep_solution(
     requires few { sum_by length trees.now ≤ most_uses }
     requires count { length numbers.now ≡ length problem.now.nets }
     requires small { All (λ number. number ≤ 2 ^ 30) numbers.now }
-    requires sums { sums.now ≡ map (group_sum (shared_routing problem.now trees.now numbers.now)) problem.now.groups }
+    requires sums { sums.now ≡ map (group_sum (shared_routing problem.now trees.now numbers.now))
+        problem.now.groups }
     requires best { IsBest problem.now best.old.solution best.old.value best.old.certified }
     ensures best { OnOk result (IsBest problem.now best.new.solution best.new.value best.new.certified) }
     ensures lower { OnOk result (best.new.value ≤ best.old.value) }
@@ -74,13 +75,13 @@ fn is_for_trade(done: u32) -> bool {
 }
 
 /// Trades ratios on the trees of a round, where so many were done before, beginning with ratios by the numbers of the nets.
-/// Keeps the solution that is found where its value is less than the best. The numbers are let go in any case.
+/// Keeps the solution that is found where its value is less than the best.
 pub(crate) fn keep_traded(
     alloc: Global,
     problem: &Problem,
     incidence: &Incidence,
     trees: &Trees,
-    numbers: Vec<u64>,
+    numbers: &[u64],
     done: u32,
     best: &mut Best,
 ) -> Result<(), AllocError>
@@ -88,7 +89,7 @@ pub(crate) fn keep_traded(
     requires minimal { AreMinimalTrees problem.now trees.now }
     requires rising { HasRisingRows trees.now }
     requires few { sum_by length trees.now ≤ most_uses }
-    requires count { length numbers.items ≡ length problem.now.nets }
+    requires count { length numbers.now ≡ length problem.now.nets }
     requires best { IsBest problem.now best.old.solution best.old.value best.old.certified }
     ensures best { OnOk result (IsBest problem.now best.new.solution best.new.value best.new.certified) }
     ensures lower { OnOk result (best.new.value ≤ best.old.value) }
@@ -146,7 +147,8 @@ pub(crate) fn keep_checked(
     requires best { IsBest problem.now best.old.solution best.old.value best.old.certified }
     ensures best { OnOk result (IsBest problem.now best.new.solution best.new.value best.new.certified) }
     ensures higher { OnOk result (best.old.certified.bound ≤ best.new.certified.bound) }
-    ensures bound { OnOk result ((other : ℕ) → IsBound problem.now cert other → other ≤ best.new.certified.bound) }
+    ensures bound { OnOk result ((other : ℕ) → IsBound problem.now cert other
+        → other ≤ best.new.certified.bound) }
     ensures value { best.new.value ≡ best.old.value }
 {
     let bound = checked_bound(alloc, problem, &cert)?;
@@ -172,7 +174,8 @@ pub(crate) fn keep_certificate(
     requires best { IsBest problem.now best.old.solution best.old.value best.old.certified }
     ensures best { OnOk result (IsBest problem.now best.new.solution best.new.value best.new.certified) }
     ensures higher { OnOk result (best.old.certified.bound ≤ best.new.certified.bound) }
-    ensures bound { OnOk result ((wire_length : ℕ → ℕ) → ListsLengths problem.now candidate.now.lengths.items wire_length
+    ensures bound { OnOk result ((wire_length : ℕ → ℕ)
+        → ListsLengths problem.now candidate.now.lengths.items wire_length
         → (other : ℕ) → IsShareBound problem.now candidate.now.weights.items wire_length other
         → other ≤ best.new.certified.bound) }
     ensures value { best.new.value ≡ best.old.value }

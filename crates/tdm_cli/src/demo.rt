@@ -23,7 +23,8 @@ fn with_size(
     routed: Prepared<Status, Output>,
 ) -> Result<Prepared<Status, Output>, AllocError>
     ensures { IfOk result (λ prepared. (opened : ℕ) → outcome_of text_of opened prepared
-        ≡ comes_to opened routed.status (size_report problem.now ++ routed.report.items) (map text_of routed.texts.items)) }
+        ≡ comes_to opened routed.status (size_report problem.now ++ routed.report.items)
+        (map text_of routed.texts.items)) }
 {
     let mut report = report::size(alloc, problem)?;
     report.extend_from_slice(&routed.report)?;

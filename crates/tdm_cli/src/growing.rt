@@ -27,7 +27,8 @@ pub(crate) fn keep_grown_rounds(
     ensures best { OnOk result (IsBest problem.now best.new.solution best.new.value best.new.certified) }
     ensures higher { OnOk result (best.old.certified.bound ≤ best.new.certified.bound) }
     ensures last { OnOk result (IfSome candidates.now.last (λ candidate. (other : ℕ)
-        → IsBound problem.now (growing_cert problem.now Share candidate.weights.items candidate.lengths.items) other
+        → IsBound problem.now (growing_cert problem.now Share candidate.weights.items candidate.lengths.items)
+        other
         → other ≤ best.new.certified.bound)) }
     ensures value { best.new.value ≡ best.old.value }
 {
@@ -75,7 +76,8 @@ fn keep_grown(
     ensures best { OnOk result (IsBest problem.now best.new.solution best.new.value best.new.certified) }
     ensures higher { OnOk result (best.old.certified.bound ≤ best.new.certified.bound) }
     ensures bound { OnOk result ((other : ℕ)
-        → IsBound problem.now (growing_cert problem.now Share candidate.now.weights.items candidate.now.lengths.items) other
+        → IsBound problem.now
+        (growing_cert problem.now Share candidate.now.weights.items candidate.now.lengths.items) other
         → other ≤ best.new.certified.bound) }
     ensures value { best.new.value ≡ best.old.value }
 {

@@ -165,7 +165,8 @@ impl TextReader for SolutionText<'_> {
     }
 
     fn report(alloc: Global, refusal: SolutionRefusal) -> Result<Vec<u8>, AllocError>
-        ensures { IfOk result (λ text. (it : SolutionText) → text.items ≡ (solutions it.problem.now).report refusal) }
+        ensures { IfOk result (λ text. (it : SolutionText)
+            → text.items ≡ (solutions it.problem.now).report refusal) }
     {
         refused(
             alloc,
@@ -249,7 +250,8 @@ impl TextReader for CertText<'_> {
     }
 
     fn report(alloc: Global, refusal: CertRefusal) -> Result<Vec<u8>, AllocError>
-        ensures { IfOk result (λ text. (it : CertText) → text.items ≡ (certificates it.problem.now).report refusal) }
+        ensures { IfOk result (λ text. (it : CertText)
+            → text.items ≡ (certificates it.problem.now).report refusal) }
     {
         refused(
             alloc,

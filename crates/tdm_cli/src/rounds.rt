@@ -101,7 +101,8 @@ fn all_rounds(
     requires nets { nets.now ≡ range_with_len 0 (length problem.now.nets) }
     requires weights { AreWeights problem.now running.old.weights.items }
     requires minimal { AreMinimalTrees problem.now running.old.trees }
-    requires best { IsBest problem.now running.old.best.solution running.old.best.value running.old.best.certified }
+    requires best { IsBest problem.now running.old.best.solution running.old.best.value
+        running.old.best.certified }
     requires candidates { AreCandidates problem.now running.old.candidates }
     ensures best { OnOk result (IsBest problem.now
         running.new.best.solution running.new.best.value running.new.best.certified) }
@@ -139,7 +140,8 @@ fn round(
     requires nets { nets.now ≡ range_with_len 0 (length problem.now.nets) }
     requires weights { AreWeights problem.now running.old.weights.items }
     requires minimal { AreMinimalTrees problem.now running.old.trees }
-    requires best { IsBest problem.now running.old.best.solution running.old.best.value running.old.best.certified }
+    requires best { IsBest problem.now running.old.best.solution running.old.best.value
+        running.old.best.certified }
     requires candidates { AreCandidates problem.now running.old.candidates }
     ensures weights { OnOk result (AreWeights problem.now running.new.weights.items) }
     ensures minimal { OnOk result (AreMinimalTrees problem.now running.new.trees) }
@@ -193,7 +195,7 @@ fn round(
         problem,
         incidence,
         &running.trees,
-        numbers,
+        &numbers,
         done,
         &mut running.best,
     )?;

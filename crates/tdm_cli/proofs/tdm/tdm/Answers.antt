@@ -25,7 +25,8 @@ returns-clause-usage g c = λ usage.
     nothing-asked _ ran.0 ran.1 (run-usage _ _ _ ran.0 _ _ _ ran.2 usage)
 
 pub returns-clause-slots : goal.returns-clause-slots
-returns-clause-slots g c = λ request asks. run-slots _ _ _ request _ _ _ (asked _ _ c.run_words.ensures.ran request asks)
+returns-clause-slots g c =
+    λ request asks. run-slots _ _ _ request _ _ _ (asked _ _ c.run_words.ensures.ran request asks)
 
 pub returns-clause-finished : goal.returns-clause-finished
 returns-clause-finished g c = λ request asks ok.

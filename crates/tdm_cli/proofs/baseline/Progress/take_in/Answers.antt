@@ -17,9 +17,9 @@ pub returns-else-branch-clause-next : goal.returns-else-branch-clause-next
 returns-else-branch-clause-next c =
     let apart = c.in_ok-build.ensures.none c.if-branch.false c.args.problem.now c.requires.board in
     let next = progress-missing c.args.problem.now c.args.n _ _ _ c.requires.so_far
-        (λ joined. apart (subst (IsConnectable c.args.problem.now) c.net.ensures.value joined)) in
+    (λ joined. apart (subst (IsConnectable c.args.problem.now) c.net.ensures.value joined)) in
     subst (IsProgress c.args.problem.now (c.args.n + 1) c.args.self.now.trees c.args.self.now.used)
-        (sym c.in_ok-push.ensures.items) next
+    (sym c.in_ok-push.ensures.items) next
 
 pub returns-then-branch-clause-next : goal.returns-then-branch-clause-next
 returns-then-branch-clause-next c =
@@ -29,4 +29,5 @@ returns-then-branch-clause-next c =
     c.in_ok-keep.ensures board c.args.n c.requires.so_far
     (subst (IsConnectable board) (sym c.net.ensures.value) joined)
     (subst (IsBaseTree board (source_of board c.args.n) (terminals_of board c.args.n)) (sym c.wires.ensures)
-    (base-at board c.args.n c.args.forest.now.root c.net.result.now _ c.requires.root c.net.ensures.value base))
+    (base-at board c.args.n c.args.forest.now.root c.net.result.now _ c.requires.root c.net.ensures.value
+    base))
