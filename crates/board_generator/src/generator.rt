@@ -9,12 +9,13 @@ ghost use Rattle.board_generator.specs.Generated.{AreSizes, wire_over, net_of, g
 use std::alloc::{AllocError, Global};
 use tdm_problem::{Problem, ProblemDraft, Wire};
 
-/// A board of `f` FPGAs, from 2 to 4,096, with `n` nets, from 1 to 1,048,576, and `g` groups, up to 1,048,576. The same
-/// numbers always give the same board.
+/// A board of `f` FPGAs, from 2 to 4,096, with `n` nets, from 1 to 1,048,576, and `g` groups, up to
+/// 1,048,576. The same numbers always give the same board.
 ///
-/// The FPGAs stand in a ring. Wire `i` joins FPGA `i` to the next one, and wire `f + i` joins it to the one half around
-/// the ring, `f / 2` FPGAs on; so all nets can be joined. Net `i` has the FPGAs `7i`, `11i + 3` and `13i + 5` modulo `f`,
-/// its source first, and group `j` the nets `j`, `3j + 1` and `5j + 2` modulo `n`; in both a number that comes again is left out.
+/// The FPGAs stand in a ring. Wire `i` joins FPGA `i` to the next one, and wire `f + i` joins it to the one
+/// half around the ring, `f / 2` FPGAs on; so all nets can be joined. Net `i` has the FPGAs `7i`, `11i + 3`
+/// and `13i + 5` modulo `f`, its source first, and group `j` the nets `j`, `3j + 1` and `5j + 2` modulo `n`;
+/// in both a number that comes again is left out.
 ///
 /// The only error is want of memory.
 pub fn gen_problem(alloc: Global, f: u32, n: u32, g: u32) -> Result<Problem, AllocError>

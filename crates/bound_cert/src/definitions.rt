@@ -17,8 +17,8 @@ ghost use Rattle.bound_cert.specs.Valid.{IsSteep, IsValid};
 
 use tdm_problem::root_is_exact;
 
-/// FPGAs of a triangle, of a ring of five and of the star, all of whose wires are 1 long. On the star the heights fall
-/// along one wire in one direction and then in the other.
+/// FPGAs of a triangle, of a ring of five and of the star, all of whose wires are 1 long. On the star the
+/// heights fall along one wire in one direction and then in the other.
 fn fpgas_grow()
     ensures triangle { IsGrowth ring (λ e. 1) (0 ∷ 1 ∷ 2 ∷ []) 2 }
     ensures ring_of_five { IsGrowth ring_of_five (λ e. 1) (0 ∷ 2 ∷ 3 ∷ []) 3 }
@@ -102,8 +102,8 @@ fn the_first_fault_decides()
         ≡ Err (record { kind = ExtraLine; line = 5 }) }
 {}
 
-/// Numbers at their limits are no fault, and one more is: the faults above have a weight, a length, a value and a choice
-/// of one more.
+/// Numbers at their limits are no fault, and one more is: the faults above have a weight, a length, a value
+/// and a choice of one more.
 fn limits_are_exact()
     ensures unit { cert_of pair (codes "1 2 1048576 0\n1\n0\n")
         ≡ Ok (record {
@@ -146,8 +146,8 @@ fn sources_and_floors()
     ensures no_parts { part_of 9 0 ≡ 0 }
 {}
 
-/// The floor by shares of three nets on one wire, in one group and in three: each net's root is that of the uniform
-/// weight, 1,024, so the one length is 3,072.
+/// The floor by shares of three nets on one wire, in one group and in three: each net's root is that of the
+/// uniform weight, 1,024, so the one length is 3,072.
 fn floors_by_shares()
     ensures length { uniform_length shared (1 ∷ 1 ∷ 1 ∷ []) ≡ 3072 }
     ensures together { share_floor shared (1 ∷ 1 ∷ 1 ∷ []) ≡ 10 }

@@ -15,9 +15,9 @@ use shortest_forest::{ArcLengths, MOST_CAP, NoBound, Search, nearest_goal};
 use std::alloc::{AllocError, Global};
 use std::marker::Model;
 
-/// Grows sets of FPGAs towards one another over the same lengths of wires, one set after another. It is made once, and
-/// its memory, which grows with the FPGAs and the wires, serves every set. A call takes time for what it searches alone,
-/// and allocates only where the queue of the search is longer than ever before.
+/// Grows sets of FPGAs towards one another over the same lengths of wires, one set after another. It is made
+/// once, and its memory, which grows with the FPGAs and the wires, serves every set. A call takes time for
+/// what it searches alone, and allocates only where the queue of the search is longer than ever before.
 #[derive(Drop)]
 pub struct Grower {
     search: Search,
@@ -71,10 +71,10 @@ impl Grower {
         })
     }
 
-    /// How far these FPGAs of the graph, all different, grow: the first is the root, and the others grow in order,
-    /// each until it reaches the root or one that is still to grow, over what those before it left of each wire in
-    /// each direction. 0 where wires do not join them all. The only error is want of memory; the grower may be used
-    /// again then too.
+    /// How far these FPGAs of the graph, all different, grow: the first is the root, and the others grow in
+    /// order, each until it reaches the root or one that is still to grow, over what those before it left of
+    /// each wire in each direction. 0 where wires do not join them all. The only error is want of memory; the
+    /// grower may be used again then too.
     pub fn growth(&mut self, graph: &BoardGraph, fpgas: &[u32]) -> Result<u128, AllocError>
         requires graph { self.old.fpgas ≡ graph.now.fpgas }
         requires lengths { length self.old.lengths ≡ length graph.now.wires }
@@ -209,8 +209,8 @@ fn take_off(up: &mut Vec<u64>, down: &mut Vec<u64>, wire: u32, from: u32, to: u3
     }
 }
 
-/// Takes a fall, where there is one, from what is left of a wire on the way from one of its ends to the other, and lists
-/// the wire.
+/// Takes a fall, where there is one, from what is left of a wire on the way from one of its ends to the
+/// other, and lists the wire.
 fn wear_wire(
     up: &mut Vec<u64>,
     down: &mut Vec<u64>,
@@ -254,8 +254,8 @@ fn list_near(near: &mut MarkedList, f: u32, height: u64) -> Result<(), AllocErro
     Ok(())
 }
 
-/// Takes the falls of the heights from what is left of the wires on the ways from FPGA `f`, and lists these wires and
-/// the FPGAs at their ends that have a height.
+/// Takes the falls of the heights from what is left of the wires on the ways from FPGA `f`, and lists these
+/// wires and the FPGAs at their ends that have a height.
 fn wear_at(
     search: &Search,
     graph: &BoardGraph,
@@ -294,8 +294,8 @@ fn wear_at(
     Ok(())
 }
 
-/// Takes the falls of the heights from what is left of all wires, after a search from FPGA `x`: wires lead from there over
-/// FPGAs that have a height to each of them, so no others are looked at.
+/// Takes the falls of the heights from what is left of all wires, after a search from FPGA `x`: wires lead
+/// from there over FPGAs that have a height to each of them, so no others are looked at.
 fn wear(
     search: &Search,
     graph: &BoardGraph,
@@ -334,8 +334,8 @@ fn wear(
     Ok(())
 }
 
-/// Searches from FPGA `x` for the nearest goal over what is left of the wires, and answers how far that is; None where
-/// no wires lead to a goal.
+/// Searches from FPGA `x` for the nearest goal over what is left of the wires, and answers how far that is;
+/// None where no wires lead to a goal.
 fn reach_from(
     search: &mut Search,
     graph: &BoardGraph,
@@ -367,8 +367,9 @@ fn reach_from(
     Ok(search.distance(goal))
 }
 
-/// Grows FPGAs in order towards the root and those that are still to grow, which are the goals, and answers how far
-/// they grow together; 0 where wires do not join them all. What is left of the wires is then less on those listed.
+/// Grows FPGAs in order towards the root and those that are still to grow, which are the goals, and answers
+/// how far they grow together; 0 where wires do not join them all. What is left of the wires is then less on
+/// those listed.
 fn grow_all(
     search: &mut Search,
     graph: &BoardGraph,

@@ -12,9 +12,9 @@ use std::alloc::{AllocError, Global};
 use std::mem;
 use tdm_problem::Problem;
 
-/// How far each net of a board grows over wires of these lengths, at most 2^48 each: its FPGAs grow in rising order. A net
-/// of weight 0 has the number 0, and is not searched. Nets with the same FPGAs are searched once. The only error is want of
-/// memory.
+/// How far each net of a board grows over wires of these lengths, at most 2^48 each: its FPGAs grow in rising
+/// order. A net of weight 0 has the number 0, and is not searched. Nets with the same FPGAs are searched
+/// once. The only error is want of memory.
 pub fn growths(
     alloc: Global,
     problem: &Problem,
@@ -76,8 +76,8 @@ fn marked_nets(
     Ok(marks)
 }
 
-/// A number that is the same for the same FPGAs in any order: a sum of mixed numbers. Nothing but speed rests on it. The
-/// mixing is that of SplitMix64 (Steele, Lea and Flood, 2014).
+/// A number that is the same for the same FPGAs in any order: a sum of mixed numbers. Nothing but speed rests
+/// on it. The mixing is that of SplitMix64 (Steele, Lea and Flood, 2014).
 fn mark_of(fpgas: &[u32]) -> u64 {
     let mut sum: u64 = 0;
     for f in fpgas {

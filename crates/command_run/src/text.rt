@@ -46,8 +46,8 @@ pub trait TextReader: Drop {
         ensures same { result ≡ limit self.now }
         ensures small { result ≤ most_text_bytes };
 
-    /// A text that is longer than the limit is refused, and cut one byte past the limit it says what the whole says.
-    /// Nothing is done.
+    /// A text that is longer than the limit is refused, and cut one byte past the limit it says what the
+    /// whole says. Nothing is done.
     fn cut(&self)
         ensures same { (text : List ℕ) → (kind self.now).says (take (limit self.now + 1) text)
             ≡ (kind self.now).says text }
@@ -84,8 +84,8 @@ pub trait OutputText: Drop {
     // its bytes
     ghost text: { Self → List ℕ };
 
-    /// Adds the text to the file of an open output. After a fault a first part of it was added, and the slot stays open.
-    /// A fault of the desk is answered as it came, and no call is tried again.
+    /// Adds the text to the file of an open output. After a fault a first part of it was added, and the slot
+    /// stays open. A fault of the desk is answered as it came, and no call is tried again.
     fn write<D: Desk>(&self, desk: &mut D, slot: OutSlot) -> Result<(), DeskFault>
         requires { IsTrue (output_is_open slot (D.seen desk.old)) }
         ensures ok { OnOk result (D.seen desk.new ≡ written slot (text self.now) (D.seen desk.old)) }

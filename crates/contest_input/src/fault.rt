@@ -11,7 +11,8 @@ use thiserror::Error;
 pub struct BoardRefusal {
     /// What is wrong.
     pub kind: BoardKind,
-    /// The line at fault, from 1. A missing line or header is said to stand where the text ends; 0 for TooLong.
+    /// The line at fault, from 1. A missing line or header is said to stand where the text ends; 0 for
+    /// TooLong.
     pub line: u32,
 }
 

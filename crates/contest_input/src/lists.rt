@@ -73,8 +73,8 @@ pub(crate) fn list_fault(listing: Listing, listed: u64, numbers: &[u64]) -> Opti
     None
 }
 
-/// Keeps one number more of a line. Of a line with as many numbers as there is room for, or more, the last that is kept
-/// is the largest of those that came since the room was full.
+/// Keeps one number more of a line. Of a line with as many numbers as there is room for, or more, the last
+/// that is kept is the largest of those that came since the room was full.
 pub(crate) fn keep(numbers: &mut Vec<u64>, room: usize, number: u64) -> Result<(), AllocError>
     requires { 0 < room }
     ensures { OnOk result ((whole : List ℕ) → IsKeptOf room numbers.old.items whole

@@ -13,9 +13,9 @@ use ratio_shares::claim;
 use std::alloc::{AllocError, Global};
 use tdm_problem::{Problem, Trees};
 
-/// The sum of each group in the solution that [`legalise`](crate::legalise) would make of these trees and numbers,
-/// without that solution being made. The trees are for the problem, and there is a number for each net, at most 2^30.
-/// The only error is want of memory.
+/// The sum of each group in the solution that [`legalise`](crate::legalise) would make of these trees and
+/// numbers, without that solution being made. The trees are for the problem, and there is a number for each
+/// net, at most 2^30. The only error is want of memory.
 pub fn shared_sums(
     alloc: Global,
     problem: &Problem,

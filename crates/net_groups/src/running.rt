@@ -13,8 +13,8 @@ use std::alloc::{AllocError, Global};
 use std::marker::Model;
 use tdm_problem::{MAX_GROUPS, Solution};
 
-/// The sum of each group, that of all ratios of all its nets, while ratios of a solution change one by one. A change costs as
-/// much time as the net has groups.
+/// The sum of each group, that of all ratios of all its nets, while ratios of a solution change one by one. A
+/// change costs as much time as the net has groups.
 #[derive(Drop)]
 pub struct RunningSums {
     sums: Vec<u128>,
@@ -32,8 +32,8 @@ impl Model for RunningSums {
 }
 
 impl RunningSums {
-    /// The sums that a solution gives the groups. The solution has as many nets as the incidence. The only error is want of
-    /// memory.
+    /// The sums that a solution gives the groups. The solution has as many nets as the incidence. The only
+    /// error is want of memory.
     pub fn of(
         alloc: Global,
         incidence: &Incidence,
@@ -69,11 +69,11 @@ impl RunningSums {
         Some(worst_of(&self.sums) as u32)
     }
 
-    /// Writes a new ratio into the use at a place of net `n`, as [`Solution::set_ratio`] does, and keeps the sums those of the
-    /// solution. It takes no memory.
+    /// Writes a new ratio into the use at a place of net `n`, as [`Solution::set_ratio`] does, and keeps the
+    /// sums those of the solution. It takes no memory.
     ///
-    /// The solution has as many nets as the incidence, and the sums are those that it gives the groups. Where a sum leaves no room
-    /// for the step in 128 bits, all sums are made anew from the solution.
+    /// The solution has as many nets as the incidence, and the sums are those that it gives the groups. Where
+    /// a sum leaves no room for the step in 128 bits, all sums are made anew from the solution.
     pub fn set_ratio(
         &mut self,
         incidence: &Incidence,
@@ -118,8 +118,8 @@ fn worst_of(sums: &[u128]) -> usize
     worst
 }
 
-/// Takes an amount off the sums of these groups, which are all different, and adds another. Answers false where a sum is less
-/// than what is taken off, or too large for what is added; the sums then mean nothing.
+/// Takes an amount off the sums of these groups, which are all different, and adds another. Answers false
+/// where a sum is less than what is taken off, or too large for what is added; the sums then mean nothing.
 fn exchange(sums: &mut [u128], groups: &[u32], off: u128, on: u128) -> bool
     requires there { All (λ g. g < length sums.old) groups.now }
     requires distinct { AllPairs (λ x y. x ≢ y) groups.now }

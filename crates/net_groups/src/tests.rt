@@ -8,7 +8,8 @@ use std::alloc::{AllocError, Global};
 use std::test::Fail;
 use tdm_problem::{Problem, ProblemDraft, Solution, Wire, WireUse};
 
-/// Four FPGAs in a ring with wires across, and three nets, all in the first group and the second alone in the other.
+/// Four FPGAs in a ring with wires across, and three nets, all in the first group and the second alone in the
+/// other.
 fn three_nets_in_two_groups(alloc: Global) -> Result<Problem, AllocError>
     ensures nets { IfOk result (λ p. length p.nets ≡ 3) }
     ensures groups { IfOk result (λ p. length p.groups ≡ 2) }

@@ -13,9 +13,9 @@ use shortest_forest::NoBound;
 use std::alloc::AllocError;
 use steiner_build::TreeBuilder;
 
-/// Grows trees of the terminals from so many of them in turn, the first one first, each shorter than the best so far and
-/// than `cap`. Answers the length of the best, whose wires are `found` then. None where walks from the first terminal to
-/// the others are together at least as long as the cap.
+/// Grows trees of the terminals from so many of them in turn, the first one first, each shorter than the best
+/// so far and than `cap`. Answers the length of the best, whose wires are `found` then. None where walks from
+/// the first terminal to the others are together at least as long as the cap.
 pub(crate) fn grow_best(
     graph: &BoardGraph,
     lengths: &Marginals,

@@ -3,8 +3,8 @@ ghost use Rattle.std.specs.Prelude.{◌≡◌, ℕ, ◌+◌, ◌-◌, ◌*◌, �
 
 use shortest_forest::{Lengths, MOST_CAP};
 
-/// The marginal lengths of wires for a net with a number of its own, which the loads do not count: twice the load of
-/// the wire, and the number.
+/// The marginal lengths of wires for a net with a number of its own, which the loads do not count: twice the
+/// load of the wire, and the number.
 #[derive(Drop)]
 pub(crate) struct Marginals<'a> {
     pub(crate) loads: &'a [u64],

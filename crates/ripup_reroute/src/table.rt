@@ -29,9 +29,10 @@ const NETS_PER_FPGA: u32 = 20;
 /// No entry is greater.
 pub(crate) const MOST_ENTRY: u64 = 1 << 51;
 
-/// The distances between all FPGAs at the lengths of a moment, twice the loads, and a scale in 4096ths: each wire is at
-/// least so many 4096ths as long as it was then. So an entry times the scale, over 4096, is a lower bound of walks, however
-/// the loads have changed. There are 8 bytes for each two FPGAs, and none where a board has few nets.
+/// The distances between all FPGAs at the lengths of a moment, twice the loads, and a scale in 4096ths: each
+/// wire is at least so many 4096ths as long as it was then. So an entry times the scale, over 4096, is a
+/// lower bound of walks, however the loads have changed. There are 8 bytes for each two FPGAs, and none where
+/// a board has few nets.
 #[derive(Drop)]
 pub(crate) struct Table {
     fpgas: u32,

@@ -92,8 +92,8 @@ fn bound_sum(table: &Table, scale: u64, terminals: &[u32], cap: u64) -> u64
     sum
 }
 
-/// Raises the lower bounds of walks from the first terminal, which sum to `sum`, to distances one by one, until the sum
-/// is the cap. Answers the last sum.
+/// Raises the lower bounds of walks from the first terminal, which sum to `sum`, to distances one by one,
+/// until the sum is the cap. Answers the last sum.
 fn least_sum(
     graph: &BoardGraph,
     lengths: &Marginals,

@@ -12,7 +12,8 @@ use std::marker::Model;
 
 /// The workspace of searches over lengths on one graph: a label for each FPGA, marks of the goals, and the
 /// queue of those that are not settled. It is made once, and each search uses it again: to begin takes no
-/// time in proportion to the graph, but once in 2^32 searches, and no call allocates but where the queue grows.
+/// time in proportion to the graph, but once in 2^32 searches, and no call allocates but where the queue
+/// grows.
 #[derive(Drop)]
 pub struct Search {
     labels: Vec<Stamped>,

@@ -78,9 +78,9 @@ fn reach_all(
     Ok(())
 }
 
-/// Reaches all FPGAs to which steps lead from the one FPGA in the queue, one step after another. The steps stand
-/// in the order of the FPGAs that they leave. Each FPGA and each step is looked at once, but for the searches
-/// among the steps.
+/// Reaches all FPGAs to which steps lead from the one FPGA in the queue, one step after another. The steps
+/// stand in the order of the FPGAs that they leave. Each FPGA and each step is looked at once, but for the
+/// searches among the steps.
 fn flood(
     steps: &[Step],
     mark: u32,
@@ -115,8 +115,8 @@ fn all_marked(marks: &[u32], fpgas: &[u32], mark: u32) -> bool
     fpgas.iter().all(|f| marks[*f as usize] == mark)
 }
 
-/// Whether steps lead from the first of these FPGAs to all of them. The steps stand in the order of the FPGAs that
-/// they leave. The mark is a new one, above all that are borne; the queue may hold anything.
+/// Whether steps lead from the first of these FPGAs to all of them. The steps stand in the order of the FPGAs
+/// that they leave. The mark is a new one, above all that are borne; the queue may hold anything.
 pub(crate) fn leads_to_all(
     steps: &[Step],
     fpgas: &[u32],

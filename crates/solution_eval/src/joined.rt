@@ -50,7 +50,8 @@ pub(crate) fn first_not_joined(
     Ok(None)
 }
 
-/// Whether the wires of these uses join the FPGAs of a net. The mark is a new one, above all that the FPGAs bear.
+/// Whether the wires of these uses join the FPGAs of a net. The mark is a new one, above all that the FPGAs
+/// bear.
 fn is_joined(
     workspace: &mut Workspace,
     problem: &Problem,

@@ -10,8 +10,8 @@ use recip_sum::Counts;
 use std::alloc::{AllocError, Global};
 use tdm_problem::{LANES, Problem, Solution, WireUse};
 
-/// The first wire on which the reciprocals of the ratios sum to more than its lanes. All ratios are positive and
-/// even. The only error is want of memory.
+/// The first wire on which the reciprocals of the ratios sum to more than its lanes. All ratios are positive
+/// and even. The only error is want of memory.
 pub(crate) fn first_overfull(
     alloc: Global,
     problem: &Problem,
@@ -33,9 +33,9 @@ pub(crate) fn first_overfull(
     Ok(None)
 }
 
-/// Counts the ratios on each wire that is wanted, in one pass over all uses. There are counts for the other wires too, of
-/// which nothing is promised. `wanted` has a place for each wire, and all ratios are positive and even. The only error is
-/// want of memory.
+/// Counts the ratios on each wire that is wanted, in one pass over all uses. There are counts for the other
+/// wires too, of which nothing is promised. `wanted` has a place for each wire, and all ratios are positive
+/// and even. The only error is want of memory.
 pub fn count_ratios(
     alloc: Global,
     problem: &Problem,

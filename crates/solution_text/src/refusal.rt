@@ -6,8 +6,9 @@ ghost use Rattle.solution_text.specs.declared.refusal.SolutionFault.TheVariants.
 use std::alloc::AllocError;
 use thiserror::Error;
 
-/// What is wrong with a text that is no solution. Of the kinds from BadNumber to RepeatedWire that a line has, the
-/// earlier one is named; a line past the last one is an ExtraLine whatever it holds. TooLong comes before all.
+/// What is wrong with a text that is no solution. Of the kinds from BadNumber to RepeatedWire that a line
+/// has, the earlier one is named; a line past the last one is an ExtraLine whatever it holds. TooLong comes
+/// before all.
 #[derive(Clone, Copy, Debug, PartialEq, Eq)]
 pub enum SolutionKind {
     /// Some token of the line is not one or more decimal digits.
@@ -51,8 +52,8 @@ impl SolutionKind {
 pub struct SolutionRefusal {
     /// What is wrong.
     pub kind: SolutionKind,
-    /// The line at fault, from 1. A missing line is said to stand where the text ends, on the line that is the number
-    /// of line feeds plus 1; 0 for TooLong.
+    /// The line at fault, from 1. A missing line is said to stand where the text ends, on the line that is
+    /// the number of line feeds plus 1; 0 for TooLong.
     pub line: u32,
 }
 

@@ -5,8 +5,8 @@ ghost use Rattle.shortest_forest.specs.Arcs.{IsGoal, IsLowerBound, both_ways};
 
 use shortest_forest::{LowerBounds, NoBound};
 
-/// Lower bounds of walks to the terminals that a tree has not joined yet, its goals. They may rise with each that it
-/// joins.
+/// Lower bounds of walks to the terminals that a tree has not joined yet, its goals. They may rise with each
+/// that it joins.
 pub trait TreeBounds: LowerBounds {
     /// What makes the bounds true at such lengths of wires, while these are the goals.
     ghost are_true: { Self → Board → (ℕ → ℕ) → List Bool → Type 0 };

@@ -37,8 +37,8 @@ pub struct Best {
     pub certified: Certified,
 }
 
-/// Keeps the solution that shares give where its value is less than the best. The sums are those that it gives the
-/// groups: it is made only where it is kept.
+/// Keeps the solution that shares give where its value is less than the best. The sums are those that it
+/// gives the groups: it is made only where it is kept.
 pub(crate) fn keep_solution(
     alloc: Global,
     problem: &Problem,
@@ -69,13 +69,14 @@ pub(crate) fn keep_solution(
     Ok(())
 }
 
-/// Whether ratios are traded in a round, where so many were done before: in the first eight, and then in every fourth.
+/// Whether ratios are traded in a round, where so many were done before: in the first eight, and then in
+/// every fourth.
 fn is_for_trade(done: u32) -> bool {
     done < 8 || done % 4 == 3
 }
 
-/// Trades ratios on the trees of a round, where so many were done before, beginning with ratios by the numbers of the nets.
-/// Keeps the solution that is found where its value is less than the best.
+/// Trades ratios on the trees of a round, where so many were done before, beginning with ratios by the
+/// numbers of the nets. Keeps the solution that is found where its value is less than the best.
 pub(crate) fn keep_traded(
     alloc: Global,
     problem: &Problem,
@@ -159,8 +160,8 @@ pub(crate) fn keep_checked(
     Ok(())
 }
 
-/// Keeps the certificate by shares at the weights of the groups and at the loads of a round's trees as lengths, where its
-/// bound is greater than the best.
+/// Keeps the certificate by shares at the weights of the groups and at the loads of a round's trees as
+/// lengths, where its bound is greater than the best.
 pub(crate) fn keep_certificate(
     alloc: Global,
     problem: &Problem,

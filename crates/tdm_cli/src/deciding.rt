@@ -108,8 +108,8 @@ fn decide_check<D: Desk>(
     }
 }
 
-/// Reads the inputs of a command that was found, in order, as far as one decides, and does its work; or refuses
-/// words that are none.
+/// Reads the inputs of a command that was found, in order, as far as one decides, and does its work; or
+/// refuses words that are none.
 pub fn decide<D: Desk>(
     alloc: Global,
     desk: &mut D,

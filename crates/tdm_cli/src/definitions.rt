@@ -45,8 +45,9 @@ fn statuses_have_codes()
         ≡ 0 ∷ 1 ∷ 2 ∷ 3 ∷ 4 ∷ 5 ∷ 6 ∷ 7 ∷ 8 ∷ 9 ∷ 10 ∷ 11 ∷ 14 ∷ [] }
 {}
 
-/// In the first round three of four nets that weigh the same share a wire, and their groups' sums are twice that of the fourth.
-/// So in the second round they weigh twice as much, and one of them moves to the fourth net's wire, of which it gets more.
+/// In the first round three of four nets that weigh the same share a wire, and their groups' sums are twice
+/// that of the fourth. So in the second round they weigh twice as much, and one of them moves to the fourth
+/// net's wire, of which it gets more.
 fn rounds_weigh_move_and_share()
     ensures weights { first_weights four_on_two ≡ first_round.weights }
     ensures root { IsRoot (net_weight four_on_two.groups first_round.weights 2) 1024 }

@@ -35,8 +35,8 @@ fn with_size(
     })
 }
 
-/// Routes the board of these numbers, and says how large it is before its value and bound, unless its baseline has too many
-/// uses. The only error is want of memory.
+/// Routes the board of these numbers, and says how large it is before its value and bound, unless its
+/// baseline has too many uses. The only error is want of memory.
 pub fn demo(
     alloc: Global,
     fpgas: u32,

@@ -39,7 +39,8 @@ impl BoardText {
     }
 }
 
-/// A text that is accepted is within its limit, and a longer one is refused for any bytes behind one past the limit.
+/// A text that is accepted is within its limit, and a longer one is refused for any bytes behind one past the
+/// limit.
 fn long_boards_are_refused()
     ensures same { (text : List ℕ) → board_of (take (most_board_bytes + 1) text) ≡ board_of text }
     ensures within { (text : List ℕ) (board : Board)
@@ -113,7 +114,8 @@ impl<'a> SolutionText<'a> {
     }
 }
 
-/// A text that is accepted is within its limit, and a longer one is refused for any bytes behind one past the limit.
+/// A text that is accepted is within its limit, and a longer one is refused for any bytes behind one past the
+/// limit.
 fn long_solutions_are_refused()
     ensures same { (board : Board) (text : List ℕ)
         → solution_of board (take (most_solution_bytes + 1) text) ≡ solution_of board text }
@@ -198,7 +200,8 @@ impl<'a> CertText<'a> {
     }
 }
 
-/// A text that is accepted is within its limit, and a longer one is refused for any bytes behind one past the limit.
+/// A text that is accepted is within its limit, and a longer one is refused for any bytes behind one past the
+/// limit.
 fn long_certificates_are_refused()
     ensures same { (board : Board) (text : List ℕ)
         → cert_of board (take (most_cert_bytes + 1) text) ≡ cert_of board text }

@@ -1,5 +1,5 @@
-//! Rounds: the groups are weighed by how bad they are, the nets rerouted for these weights, and the wires shared by the
-//! roots of the weights.
+//! Rounds: the groups are weighed by how bad they are, the nets rerouted for these weights, and the wires
+//! shared by the roots of the weights.
 ghost use Rattle.std.specs.Prelude.{◌≡◌, ◌<◌, ◌≤◌, ◌^◌, ℕ, length, replicate, true, false, None, All, IfOk, OnOk};
 ghost use Rattle.std.specs.List.{range_with_len};
 ghost use Rattle.tdm_problem.specs.Legal.{AllConnectable};
@@ -28,8 +28,8 @@ use tdm_problem::{Problem, Trees};
 /// How many passes over all nets a round makes.
 const PASSES: u32 = 4;
 
-/// What a round begins with: the weights of the groups, the trees, the best so far, and what is remembered of the rounds
-/// before.
+/// What a round begins with: the weights of the groups, the trees, the best so far, and what is remembered of
+/// the rounds before.
 #[derive(Drop)]
 struct Running {
     weights: Vec<u64>,
@@ -38,12 +38,13 @@ struct Running {
     candidates: Candidates,
 }
 
-/// Improves a solution and a certificate by so many rounds, from the baseline's trees, makes certificates by growth, and then
-/// lowers ratios of the best solution until none can be lowered by 2. The value does not rise, and the bound does not fall;
-/// unless the value becomes 0, one list of rounds meets both, and the bound is at least that by growth of the last of them
-/// that fits. Rounds end early where the value is 0, and after the first whose trees have more wires than may be written.
-/// Method: Lagrangian weights on the groups, renewed by how large their sums are; shares by the roots of the weights, which
-/// are the best where ratios are any real numbers (Cauchy and Schwarz). The only error is want of memory.
+/// Improves a solution and a certificate by so many rounds, from the baseline's trees, makes certificates by
+/// growth, and then lowers ratios of the best solution until none can be lowered by 2. The value does not
+/// rise, and the bound does not fall; unless the value becomes 0, one list of rounds meets both, and the
+/// bound is at least that by growth of the last of them that fits. Rounds end early where the value is 0, and
+/// after the first whose trees have more wires than may be written. Method: Lagrangian weights on the groups,
+/// renewed by how large their sums are; shares by the roots of the weights, which are the best where ratios
+/// are any real numbers (Cauchy and Schwarz). The only error is want of memory.
 pub fn improve(
     alloc: Global,
     problem: &Problem,
@@ -122,9 +123,9 @@ fn all_rounds(
     Ok(())
 }
 
-/// Does a round, where so many were done before. Answers whether another may follow: not where its trees have more wires
-/// than may be written, and not where its shares bring the best value to 0. The trade comes last, when the round has nothing
-/// more in memory than what the next one begins with.
+/// Does a round, where so many were done before. Answers whether another may follow: not where its trees have
+/// more wires than may be written, and not where its shares bring the best value to 0. The trade comes last,
+/// when the round has nothing more in memory than what the next one begins with.
 fn round(
     alloc: Global,
     problem: &Problem,

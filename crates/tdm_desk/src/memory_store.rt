@@ -146,8 +146,8 @@ impl MemoryStore {
         }
     }
 
-    /// Opens the file of this name as an input, and answers whether there is one. Where there is none, or memory is
-    /// wanting, the slot is closed.
+    /// Opens the file of this name as an input, and answers whether there is one. Where there is none, or
+    /// memory is wanting, the slot is closed.
     pub fn open_input(&mut self, slot: InSlot, name: &str) -> Result<bool, AllocError>
         ensures ok { IfOk result (λ found. seen_in_memory self.new ≡
             (if found then opened slot name.now (seen_in_memory self.old) else input_closed slot
@@ -190,8 +190,8 @@ impl MemoryStore {
         self.give(slot.place(), buf)
     }
 
-    /// Makes the file of this name empty, and opens it as an output. Where memory is wanting, the files are as they were,
-    /// and the slot is closed.
+    /// Makes the file of this name empty, and opens it as an output. Where memory is wanting, the files are
+    /// as they were, and the slot is closed.
     pub fn create(&mut self, slot: OutSlot, name: &str) -> Result<(), AllocError>
         ensures ok { OnOk result (seen_in_memory self.new ≡ created slot name.now (seen_in_memory self.old)) }
         ensures err { OnErr result (seen_in_memory self.new ≡ output_closed slot (seen_in_memory self.old)) }

@@ -13,8 +13,8 @@ use std::alloc::AllocError;
 
 /// A text that was read so far, and what it made of its grammar's state.
 ///
-/// Of the line in progress it keeps how many tokens it has and the first fault by the order of kinds. Its numbers are
-/// kept by the grammar, as far as it wants them. After an error nothing is said of it.
+/// Of the line in progress it keeps how many tokens it has and the first fault by the order of kinds. Its
+/// numbers are kept by the grammar, as far as it wants them. After an error nothing is said of it.
 #[derive(Drop)]
 pub struct Reading<G> {
     scan: Scan,

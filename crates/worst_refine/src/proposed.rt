@@ -13,8 +13,8 @@ use tdm_problem::{Problem, Solution, Trees, WireUse};
 /// The half of the greatest even ratio.
 const MOST_HALF: u32 = (1 << 31) - 1;
 
-/// The solution with the trees and the proposed halves of ratios, use by use, if it is legal and its value is below `best`.
-/// The halves are let go before it is judged.
+/// The solution with the trees and the proposed halves of ratios, use by use, if it is legal and its value is
+/// below `best`. The halves are let go before it is judged.
 pub(crate) fn checked(
     alloc: Global,
     problem: &Problem,

@@ -8,8 +8,8 @@ use flat_rows::FlatRows;
 /// The most 64ths of the half of a ratio.
 const MOST_PARTS: u128 = (1 << 27) - 1;
 
-/// Reckons each use at the even ratio above the load over the price. Its part, one after another in the order of the rows,
-/// becomes the half of that quotient in 64ths.
+/// Reckons each use at the even ratio above the load over the price. Its part, one after another in the order
+/// of the rows, becomes the half of that quotient in 64ths.
 pub(crate) fn round_up(
     parts: &mut [u32],
     wires: &mut [WireRounding],
@@ -39,7 +39,8 @@ pub(crate) fn round_up(
     }
 }
 
-/// Reckons the uses of one net, whose parts begin at `start`, and of whose price this is the inverse in 2^-62ths.
+/// Reckons the uses of one net, whose parts begin at `start`, and of whose price this is the inverse in
+/// 2^-62ths.
 fn round_net_up(
     parts: &mut [u32],
     start: usize,
@@ -99,8 +100,8 @@ pub(crate) fn round_down_some(
     }
 }
 
-/// Puts halves of ratios in the places of the parts of one net's uses, which begin at `start`, and answers the sum of these
-/// ratios.
+/// Puts halves of ratios in the places of the parts of one net's uses, which begin at `start`, and answers
+/// the sum of these ratios.
 fn round_net_down(
     parts: &mut [u32],
     start: usize,

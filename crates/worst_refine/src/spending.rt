@@ -14,8 +14,8 @@ use tdm_problem::{Solution, WireUse};
 /// A wire, in the units in which reciprocals are rounded up.
 pub(crate) const WHOLE: u128 = 1 << 64;
 
-/// For each of so many wires the sum of the reciprocals of its ratios, each rounded up. A sum above [`WHOLE`] counts as one
-/// unit above. All ratios are positive and even.
+/// For each of so many wires the sum of the reciprocals of its ratios, each rounded up. A sum above [`WHOLE`]
+/// counts as one unit above. All ratios are positive and even.
 pub(crate) fn spent_on_wires(
     alloc: Global,
     wires: u32,

@@ -15,7 +15,8 @@ use std::alloc::{AllocError, Global};
 use std::test::Fail;
 use tdm_problem::{Problem, ProblemDraft, Solution, Trees, Wire, WireUse};
 
-/// Two FPGAs and one wire between them, with five nets, of which the first four are in one group and the last in another.
+/// Two FPGAs and one wire between them, with five nets, of which the first four are in one group and the last
+/// in another.
 fn five_nets(alloc: Global) -> Result<Problem, AllocError>
     ensures { IfOk result (λ p. p ≡ record {
       fpgas = 2;

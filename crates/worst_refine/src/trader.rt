@@ -1,8 +1,10 @@
-//! A proposal of even ratios for given trees. Nothing is promised of it but that it is made: whoever takes it checks it.
+//! A proposal of even ratios for given trees. Nothing is promised of it but that it is made: whoever takes it
+//! checks it.
 //!
-//! Each net has a price, and a net's ratio on a wire is about the sum of the prices on the wire over its own price. Turn by
-//! turn the nets of large groups are made dearer, so that their ratios become smaller and those of others larger. Then the
-//! ratios are rounded to even numbers, and repriced and rounded again by the sums that these gave.
+//! Each net has a price, and a net's ratio on a wire is about the sum of the prices on the wire over its own
+//! price. Turn by turn the nets of large groups are made dearer, so that their ratios become smaller and
+//! those of others larger. Then the ratios are rounded to even numbers, and repriced and rounded again by the
+//! sums that these gave.
 ghost use Rattle.std.specs.Prelude.{◌≡◌, ◌<◌, length, All, IfOk};
 ghost use Rattle.tdm_problem.specs.Trees.{AreTreesFor};
 ghost use Rattle.net_groups.specs.Incidence.{IsIncidenceOf};
@@ -60,9 +62,9 @@ impl Trader {
         })
     }
 
-    /// The halves of even ratios, use by use of the rows, by which the largest group sum may be below `best`; none where the trade
-    /// saw that it would not be. The rows are the trees of the nets. All prices change at most `turns` times, the last four of
-    /// them between roundings.
+    /// The halves of even ratios, use by use of the rows, by which the largest group sum may be below `best`;
+    /// none where the trade saw that it would not be. The rows are the trees of the nets. All prices change
+    /// at most `turns` times, the last four of them between roundings.
     pub(crate) fn propose(
         mut self,
         alloc: Global,
@@ -91,8 +93,8 @@ impl Trader {
         Ok(Some(self.best_halves))
     }
 
-    /// Reprices up to so often, until a turn gains less than a 2^13th or the goal is out of reach at twice the last gain. Answers
-    /// the largest group sum at the last prices, in parts.
+    /// Reprices up to so often, until a turn gains less than a 2^13th or the goal is out of reach at twice
+    /// the last gain. Answers the largest group sum at the last prices, in parts.
     fn take_turns(
         &mut self,
         problem: &Problem,
@@ -129,8 +131,8 @@ impl Trader {
         sum_groups(&mut self.group_sums, problem, &self.net_values)
     }
 
-    /// Rounds, and reprices and rounds again, and keeps the best halves. It gives up where the gains cannot lead below `best`.
-    /// Answers the largest group sum of the best.
+    /// Rounds, and reprices and rounds again, and keeps the best halves. It gives up where the gains cannot
+    /// lead below `best`. Answers the largest group sum of the best.
     fn round_repeatedly(
         &mut self,
         problem: &Problem,

@@ -20,9 +20,9 @@ const TURNS: u32 = 12;
 
 const TURNS_AT_FIRST: u32 = 20;
 
-/// A legal solution with exactly these trees and a value below `best`, if the trade finds one. It begins with ratios by the
-/// numbers `s`, one for each net: on a wire about the sum of the numbers over the net's own. The first trade of a run takes
-/// more turns.
+/// A legal solution with exactly these trees and a value below `best`, if the trade finds one. It begins with
+/// ratios by the numbers `s`, one for each net: on a wire about the sum of the numbers over the net's own.
+/// The first trade of a run takes more turns.
 ///
 /// The trees are for the problem, and each joins its net. The only error is want of memory.
 pub fn trade_from(
@@ -44,9 +44,9 @@ pub fn trade_from(
     better(alloc, problem, incidence, trees, s, best, turns)
 }
 
-/// Trades ratios of a legal solution in up to `turns` exchanges, in each of which nets of the worst groups get smaller ratios and
-/// others larger ones. The solution stays legal, each net keeps its wires, no ratio is above 4,294,967,294, and the value
-/// is not above the old.
+/// Trades ratios of a legal solution in up to `turns` exchanges, in each of which nets of the worst groups
+/// get smaller ratios and others larger ones. The solution stays legal, each net keeps its wires, no ratio is
+/// above 4,294,967,294, and the value is not above the old.
 ///
 /// The only error is want of memory, and all of this holds after it too.
 pub fn trade(
@@ -150,7 +150,8 @@ fn set_wires(wires: &mut Vec<u32>, uses: &[WireUse]) -> Result<(), AllocError>
     Ok(())
 }
 
-/// A number for each net that is the larger the smaller its ratios are: so many 2^-30ths as its mean ratio is a part of.
+/// A number for each net that is the larger the smaller its ratios are: so many 2^-30ths as its mean ratio is
+/// a part of.
 fn numbers_of(alloc: Global, solution: &Solution) -> Result<Vec<u64>, AllocError>
     ensures { IfOk result (λ numbers. length numbers.items ≡ length solution.now) }
 {
