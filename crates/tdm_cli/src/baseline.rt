@@ -15,7 +15,7 @@ ghost use Rattle.tdm_cli.specs.Progress.{IsProgress, HasForests};
 
 use board_graph::BoardGraph;
 use even_legalise::uniform_solution;
-use shortest_forest::{Forest, base_tree, hops};
+use shortest_forest::{BaseTrees, Forest, hops};
 use std::alloc::{AllocError, Global};
 use tdm_problem::{Problem, Solution, Trees};
 
@@ -115,23 +115,26 @@ impl Progress {
     /// Takes in the baseline tree of the next net, or that no wires join it.
     fn take_in(
         &mut self,
-        alloc: Global,
+        builder: &mut BaseTrees,
         problem: &Problem,
         graph: &BoardGraph,
         forest: &Forest,
         n: u32,
     ) -> Result<(), AllocError>
+        requires builder { builder.old.fpgas ≡ graph.now.fpgas }
         requires there { n < length problem.now.nets }
         requires board { graph.now ≡ graph_of problem.now }
         requires hops { IsHopForest graph.now forest.now }
         requires root { forest.now.root ≡ source_of problem.now n }
         requires so_far { IsProgress problem.now n self.old.trees self.old.used self.old.missing.items }
-        ensures { OnOk result (IsProgress problem.now
+        ensures builder { builder.new.fpgas ≡ builder.old.fpgas }
+        ensures next { OnOk result (IsProgress problem.now
             (n + 1) self.new.trees self.new.used self.new.missing.items) }
     {
-        match base_tree(alloc, graph, forest, problem.net(n))? {
-            None => self.missing.push(n)?,
-            Some(tree) => self.keep(&tree)?,
+        if builder.build(graph, forest, problem.net(n))? {
+            self.keep(builder.wires())?;
+        } else {
+            self.missing.push(n)?;
         }
         Ok(())
     }
@@ -176,6 +179,7 @@ pub fn baseline_trees(
     ensures obstacle { IfErr result (ObstacleShows problem.now) }
 {
     let forests = forests(alloc, problem, graph)?;
+    let mut builder = BaseTrees::new(alloc, graph)?;
     let mut progress = Progress {
         trees: Trees::new(alloc),
         used: 0,
@@ -183,7 +187,7 @@ pub fn baseline_trees(
     };
     for n in 0..problem.nets() {
         let forest = forest_at(&forests, source(problem, n));
-        progress.take_in(alloc, problem, graph, forest, n)?;
+        progress.take_in(&mut builder, problem, graph, forest, n)?;
     }
     if !progress.missing.is_empty() {
         return Err(Obstacle::Unconnectable(progress.missing));

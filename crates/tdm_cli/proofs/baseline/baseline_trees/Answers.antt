@@ -46,7 +46,7 @@ returns-then-not-is_empty-clause-obstacle c = (
     c.loop-n-test.false,
     c.loop-n.auto.n-end,
     c.nets-n-end.ensures.value,
-  )) c.loop-n.invariant,
+  )) c.loop-n.invariant.0,
   some-there _ _ (omega arith) c.if-not-is_empty.ensures,
 )
 
@@ -57,7 +57,7 @@ returns-then-progress-gt-MAX_USES-clause-obstacle c =
       c.loop-n-test.false,
       c.loop-n.auto.n-end,
       c.nets-n-end.ensures.value,
-    )) c.loop-n.invariant
+    )) c.loop-n.invariant.0
     (none-there _ _ (omega arith) c.if-not-is_empty.ensures) c.if-progress-gt-MAX_USES.true
 
 pub returns-clause-base : goal.returns-clause-base
@@ -67,7 +67,7 @@ returns-clause-base c =
       c.loop-n-test.false,
       c.loop-n.auto.n-end,
       c.nets-n-end.ensures.value,
-    )) c.loop-n.invariant
+    )) c.loop-n.invariant.0
     (none-there _ _ (omega arith) c.if-not-is_empty.ensures) c.if-progress-gt-MAX_USES.false
 
 pub returns-clause-few : goal.returns-clause-few
@@ -77,7 +77,7 @@ returns-clause-few c =
       c.loop-n-test.false,
       c.loop-n.auto.n-end,
       c.nets-n-end.ensures.value,
-    )) c.loop-n.invariant
+    )) c.loop-n.invariant.0
     (none-there _ _ (omega arith) c.if-not-is_empty.ensures) c.if-progress-gt-MAX_USES.false
 
 pub returns-clause-joined : goal.returns-clause-joined
@@ -87,5 +87,5 @@ returns-clause-joined c =
       c.loop-n-test.false,
       c.loop-n.auto.n-end,
       c.nets-n-end.ensures.value,
-    )) c.loop-n.invariant
+    )) c.loop-n.invariant.0
     (none-there _ _ (omega arith) c.if-not-is_empty.ensures)
