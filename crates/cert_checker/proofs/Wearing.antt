@@ -174,8 +174,7 @@ abbrev pub IsBefore : (near : List ℕ) → (k f : ℕ) → Type 0
 IsBefore near k f = (j : ℕ) × (j < k) × (j < length near) × (get_or near j 0 ≡ f)
 
 -- the falls on the ways from the first k listed FPGAs are taken, and no others, and those that have a height
--- at the ends
--- of their wires are listed
+-- at the ends of their wires are listed
 pub record AreWorn (board : Board) (heights : ℕ → ℕ) (near : List ℕ) (k : ℕ) (old new : Arcs) : Type 0 where
   pub each : (e v u : ℕ) → Links board e v u → (IsBefore near k v × (new e v u ≡ worn old heights e v u))
       ⊎ ((¬ IsBefore near k v) × (new e v u ≡ old e v u))

@@ -35,8 +35,7 @@ abbrev pub contents_in : Files → List Input → List Content
 contents_in files inputs = map (λ (input : Input). content_of (get files input.name)) inputs
 
 -- where the desk tells its files, there is none of this name, or it holds this text; a text that was opened
--- was read
--- through, and only the input that failed, if one, could not be read
+-- was read through, and only the input that failed, if one, could not be read
 abbrev pub Holds : ℕ → Option InSlot → Input → Content → Seen → Seen → Type 0
 Holds opened failed input no_file before after =
     ForSome (files_of before) (λ files. get files input.name ≡ None)

@@ -14,8 +14,7 @@ with_files [] (text ∷ texts) files = files
 with_files (name ∷ names) (text ∷ texts) files = with_files names texts (with_file name text files)
 
 -- where the desk tells its bytes, the files of these names hold these texts, in order and as far as there are
--- texts, each
--- other file is as it was, and these bytes were said
+-- texts, each other file is as it was, and these bytes were said
 pub record Leaves (before after : Seen) (names : List Name) (texts : List Bytes) (more : Bytes) : Type 0 where
   pub files : files_of after ≡ option_map (with_files names texts) (files_of before)
   pub said : said_of after ≡ option_map (λ s. s ++ more) (said_of before)

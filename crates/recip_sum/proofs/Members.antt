@@ -1,5 +1,5 @@
 -- A ratio that stands among the items is counted.
-use Rattle.std.proofs.Common.{◌≡◌, ℕ, ◌+◌, ◌*◌, ◌<◌, ◌==◌, true, false, cond, List, [], ◌∷◌, ◌++◌, Some, arith, refl, sym, ap, subst, ◌∙◌, replicate}
+use Rattle.std.proofs.Common.{◌≡◌, ℕ, ◌+◌, ◌*◌, ◌<◌, ◌==◌, true, false, cond, List, [], ◌∷◌, Some, arith, refl, sym, ap, subst, ◌∙◌, replicate}
 use Rattle.std.specs.Prelude.{T, ◌&&◌, Bool, unwrap_or, count_by}
 use Rattle.std.specs.Ordering.{nat_cmp, is_lt, is_eq, eq_by_cmp}
 use Rattle.std.specs.declared.cmp.Ordering.{Ordering}

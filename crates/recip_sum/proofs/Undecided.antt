@@ -1,6 +1,5 @@
 -- Turn by turn, the whole number and what the terms stand for keep the difference of the lanes and the sum,
--- times a
--- power of the base. One turn more than there are terms leaves room for no difference.
+-- times a power of the base. One turn more than there are terms leaves room for no difference.
 use Rattle.std.proofs.Common.{◌≡◌, ℕ, ◌+◌, ◌*◌, ◌^◌, ◌<◌, ◌≤◌, List, All, length, map, arith, inl, inr, refl, ap, subst, ◌∙◌, add-one, pow-suc, lit<}
 use Rattle.std.proofs.Math.Nat.{one-le-pow, le_of_mul-le-mul_left}
 use Rattle.std.proofs.lemmas.Nat.{mul-le}

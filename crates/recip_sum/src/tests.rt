@@ -1,8 +1,7 @@
 //! Worked examples of the counts and of the exact test.
 
-ghost use Rattle.std.specs.Prelude.{◌≡◌, ◌+◌, ◌*◌, ◌^◌, ◌<◌, ◌≤◌, ◌∷◌, length};
+ghost use Rattle.std.specs.Prelude.{◌≡◌, ◌+◌, ◌<◌, ◌≤◌, [], ◌∷◌, true};
 ghost use Rattle.recip_sum.specs.Counts.{items};
-ghost use Rattle.recip_sum.specs.Rounded.{floor_sum};
 ghost use Rattle.tdm_problem.specs.Fit.{FitsLanes};
 ghost use Rattle.std.specs.FinMap as map;
 
@@ -121,12 +120,13 @@ fn the_sum_of_reciprocals_rounded_down_is_kept(rt: HostRuntime) -> Result<(), Al
     Ok(())
 }
 
-/// Whether items fit so many lanes, which their reciprocals rounded down tell, with no step.
-fn fits_without_a_step<L: Ledger>(counts: &mut Counts, lanes: u64, steps: &mut Steps<L>) -> bool
-    requires { floor_sum (items counts.old) + length (items counts.old) ≤ lanes * 2 ^ 64 }
-    ensures { steps.new ≡ steps.old }
+/// Whether 2 and 4 fit one lane, which their reciprocals rounded down tell, with no step.
+fn fits_without_a_step<L: Ledger>(counts: &mut Counts, steps: &mut Steps<L>) -> bool
+    requires { items counts.old ≡ 2 ∷ 4 ∷ [] }
+    ensures fits { result ≡ true }
+    ensures steps { steps.new ≡ steps.old }
 {
-    counts.at_most(lanes, steps)
+    counts.at_most(1, steps)
 }
 
 #[test]

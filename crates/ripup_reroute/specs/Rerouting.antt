@@ -13,8 +13,7 @@ pub record AreMinimalTrees (board : Board) (trees : List (List ℕ)) : Type 0 wh
   pub minimal : (n : ℕ) → n < length board.nets → IsMinimalTree board (tree_of trees n) (terminals_of board n)
 
 -- what holds after rerouting, whether it came to its end or memory was wanting: the trees are minimal, nets
--- that
--- were not picked keep theirs, and the cost has not risen
+-- that were not picked keep theirs, and the cost has not risen
 pub record AreRerouted (board : Board) (numbers picks : List ℕ) (trees new : List (List ℕ)) : Type 0 where
   pub minimal : AreMinimalTrees board new
   pub unpicked : (n : ℕ) → ¬ Contains picks n → tree_of new n ≡ tree_of trees n

@@ -9,8 +9,7 @@ use Rattle.tdm_problem.specs.Trees.{tree_of}
 use Rattle.tdm_problem.specs.Walk.{IsMinimalTree}
 
 -- net n's number times the marginal length of its tree is at most its number times the sum of the least
--- marginal
--- lengths of walks from its first FPGA to the others
+-- marginal lengths of walks from its first FPGA to the others
 abbrev pub IsShortFor : Board → (numbers : List ℕ) → (n : ℕ) → (trees : List (List ℕ)) → Type 0
 IsShortFor board numbers n trees = (distance : ℕ → ℕ)
     → ((t : ℕ) → Contains (terminals_of board n) t
@@ -19,8 +18,7 @@ IsShortFor board numbers n trees = (distance : ℕ → ℕ)
     ≤ slice_index numbers n * sum_by distance (terminals_of board n)
 
 -- a turn of net n: all other trees stay, and its own stays or becomes another minimal tree, wires rising, of
--- smaller
--- cost; then it is short
+-- smaller cost; then it is short
 pub record IsTurn (board : Board) (numbers : List ℕ) (n : ℕ) (trees new : List (List ℕ)) : Type 0 where
   pub others : new ≡ slice_set trees n (tree_of new n)
   pub own : (tree_of new n ≡ tree_of trees n)
@@ -50,8 +48,7 @@ AreFallingPasses board numbers picks (suc k) trees new =
     × AreFallingPasses board numbers picks k next new
 
 -- fewer than so many passes, each of which makes the cost smaller, lead from the trees to the new ones, over
--- which a
--- pass changes nothing
+-- which a pass changes nothing
 pub record ComesToRest (board : Board) (numbers picks : List ℕ) (passes : ℕ)
     (trees new : List (List ℕ)) : Type 0 where
   pub done : ℕ

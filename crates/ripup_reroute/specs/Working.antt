@@ -51,8 +51,7 @@ pub record IsGrown (graph : Graph) (wire_length : ℕ → ℕ) (terminals wires 
   pub long : total ≡ length_of wire_length wires
 
 -- a tree below the cap has grown, or there is none; walks from the start to the terminals are at least as
--- long as the
--- tree, or else as the cap
+-- long as the tree, or else as the cap
 abbrev pub IsGrowth : Graph → (wire_length : ℕ → ℕ) → (start : ℕ) → (terminals : List ℕ) → (cap : ℕ)
     → (wires : List ℕ) → Option ℕ → Type 0
 IsGrowth graph wire_length start terminals cap wires (Some total) =

@@ -6,7 +6,7 @@ ghost use Rattle.tdm_problem.specs.Limits.{most_nets};
 ghost use Rattle.tdm_problem.specs.Walk.{IsMinimalTree};
 ghost use Rattle.ripup_reroute.specs.Rerouting.{AreMinimalTrees};
 
-use crate::{Effort, Rerouted, reroute, reroute_with};
+use crate::{Effort, Rerouted, loads_of, reroute, reroute_with};
 use board_graph::BoardGraph;
 use shortest_forest::{Lengths, MOST_CAP, NoBound};
 use std::alloc::{AllocError, Global};
@@ -117,15 +117,31 @@ fn reroute_doubled(
 }
 
 /// Three FPGAs in a ring, and two nets on all of them, which both begin on the first two wires.
-fn reroute_ring(alloc: Global, passes: u32) -> Result<Rerouted, AllocError> {
+fn ring(alloc: Global) -> Result<Problem, AllocError>
+    ensures { IfOk result (λ problem. length problem.nets ≡ 2) }
+{
     let mut draft = ProblemDraft::new(alloc, 3);
     draft.push_wire(Wire { a: 0, b: 1 })?;
     draft.push_wire(Wire { a: 1, b: 2 })?;
     draft.push_wire(Wire { a: 0, b: 2 })?;
     draft.push_net(&[0, 1, 2])?;
     draft.push_net(&[0, 1, 2])?;
-    let problem = draft.into_problem();
-    reroute_first(alloc, &problem, &[1, 1], &[0, 1], passes)
+    Ok(draft.into_problem())
+}
+
+/// Reroutes both nets of the ring.
+fn reroute_ring(alloc: Global, passes: u32) -> Result<Rerouted, AllocError> {
+    reroute_first(alloc, &ring(alloc)?, &[1, 1], &[0, 1], passes)
+}
+
+/// The loads of the first trees of a problem.
+fn first_loads(alloc: Global, problem: &Problem, numbers: &[u64]) -> Result<Vec<u64>, AllocError>
+    requires count { length numbers.now ≡ length problem.now.nets }
+    requires small { All (λ s. s ≤ 2 ^ 30) numbers.now }
+{
+    let graph = BoardGraph::of(alloc, problem)?;
+    let trees = first_trees(alloc, problem, &graph)?;
+    loads_of(alloc, problem, &trees, numbers)
 }
 
 #[test]
@@ -139,6 +155,13 @@ fn nets_on_one_wire_spread_over_two(rt: HostRuntime) -> Result<(), Fail> {
     let none = reroute_doubled(rt.alloc(), &[1024; 4], &[0, 1, 2, 3], 0)?;
     assert!(rt; !none.settled);
     assert_eq!(rt; none.phi, 16_777_216);
+    Ok(())
+}
+
+#[test]
+fn a_load_is_the_sum_of_the_numbers_on_a_wire(rt: HostRuntime) -> Result<(), Fail> {
+    let loads = first_loads(rt.alloc(), &ring(rt.alloc())?, &[5, 1 << 30])?;
+    assert_eq!(rt; loads[..], [1_073_741_829, 1_073_741_829, 0][..]);
     Ok(())
 }
 

@@ -27,8 +27,7 @@ IsMet-better board value bound lower higher less more round met = record {
 }
 
 -- a smaller value meets a list of rounds too, and so does a greater bound, which is at least that by growth
--- of the last
--- that fits
+-- of the last that fits
 pub meets-rounds : (board : Board) (baseline : List (List ℕ)) (count value lower bound higher : ℕ)
     (last : Option Candidate) → lower ≤ value → bound ≤ higher
     → ((candidate : Candidate) → last ≡ Some candidate → (other : ℕ)
@@ -82,8 +81,7 @@ last-before (first ∷ rounds) round last over (inr later) = inr (last-before ro
 
 module _ (board : Board) (count : ℕ) (first : List ℕ) (baseline : List (List ℕ)) where
   -- so many rounds are left, from these weights and trees; the value and the bound meet those before, and the
-  -- candidate is
-  -- of the last of them that fits
+  -- candidate is of the last of them that fits
   pub record IsUnderWay (left : ℕ) (weights : List ℕ) (trees : List (List ℕ)) (value bound : ℕ)
       (last : Option Candidate) : Type 0 where
     pub before : List Round

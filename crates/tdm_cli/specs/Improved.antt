@@ -17,8 +17,7 @@ MeetsBaselineRounds board count value bound =
     (trees : List (List ℕ)) × AreBaseTrees board trees × MeetsRounds board trees count value bound
 
 -- of a board with a baseline a tight solution that may be written, and a certificate that may be, with its
--- bound; unless the
--- value is 0, so many rounds that value and bound both meet
+-- bound; unless the value is 0, so many rounds that value and bound both meet
 pub record IsImproved (board : Board) (count : ℕ) (routing : Routing) (cert : Cert) (bound : ℕ) : Type 0 where
   pub joined : AllConnectable board
   pub within : IsWithinUseLimit board

@@ -43,8 +43,7 @@ abbrev pub refused_words : Outcome Status
 refused_words = comes_to 0 status.Usage usage_report []
 
 -- what the routing of a board by so many rounds comes to: some nets cannot be joined, or the baseline has too
--- many uses, or
--- a solution and a certificate are written, and their value and bound are said
+-- many uses, or a solution and a certificate are written, and their value and bound are said
 pub data Routes (board : Board) (rounds : ℕ) (outcome : Outcome Status) : Type 0 where
   is_unconnectable : (nets : List ℕ) → AreUnconnectable board nets → 0 < length nets
       → outcome ≡ comes_to 1 status.Unconnectable (unconnectable_report nets) [] → Routes board rounds outcome

@@ -50,8 +50,7 @@ Certifies files name board cert = (bytes : Bytes) × (get files name ≡ Some by
     × (cert_of board bytes ≡ Ok cert)
 
 -- a solution of the board, found by so many rounds, is written to one file and a certificate to another, both
--- read back, and
--- their value and bound are said in such a report
+-- read back, and their value and bound are said in such a report
 pub record IsWritten (board : Board) (files : Files) (solution cert : Name) (count : ℕ)
     (report : (value bound : ℕ) → Bytes) (before after : Seen) : Type 0 where
   pub routing : Routing
@@ -103,8 +102,7 @@ pub record IsJudged (files : Files) (name solution : Name) (before after : Seen)
   pub told : said_of after ≡ option_map (λ s. s ++ verdict_report verdict) (said_of before)
 
 -- the certificate in one file is valid for the board in the other and its bound is said, no legal solution's
--- value is
--- below the bound, and no file is changed
+-- value is below the bound, and no file is changed
 pub record IsBounded (files : Files) (name cert : Name) (before after : Seen) : Type 0 where
   pub board : Board
   pub described : Describes files name board
@@ -118,8 +116,7 @@ pub record IsBounded (files : Files) (name cert : Name) (before after : Seen) : 
   pub told : said_of after ≡ option_map (λ s. s ++ bound_report bound) (said_of before)
 
 -- the certificate in one file is not valid for the board in the other and its first steep pair is said, and
--- no file is
--- changed
+-- no file is changed
 pub record IsRejected (files : Files) (name cert : Name) (before after : Seen) : Type 0 where
   pub board : Board
   pub described : Describes files name board

@@ -32,8 +32,7 @@ pub record AreRoots (board : Board) (weights numbers : List ℕ) : Type 0 where
       → slice_index numbers n ≡ root_of (net_weight board.groups weights n)
 
 -- the round begins at these trees: its numbers are the roots of the weights of the nets, and four passes over
--- all nets
--- in order lead to its trees
+-- all nets in order lead to its trees
 pub record Reroutes (board : Board) (before : List (List ℕ)) (round : Round) : Type 0 where
   pub roots : AreRoots board round.weights round.numbers
   pub passes : ArePasses board round.numbers (range_with_len 0 (length board.nets)) 4 before round.trees
@@ -102,8 +101,7 @@ IsLastFit (round ∷ after) last = ((last ≡ round) × FitsUses round × All (�
     ⊎ IsLastFit after last
 
 -- there is one list of so many rounds that the value and the bound both meet, and the bound is at least the
--- bound by growth
--- of the last of them that fits
+-- bound by growth of the last of them that fits
 pub record MeetsRounds (board : Board) (baseline : List (List ℕ)) (count value bound : ℕ) : Type 0 where
   pub rounds : List Round
   pub list : IsRoundList board baseline count rounds

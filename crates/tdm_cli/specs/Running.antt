@@ -35,8 +35,7 @@ pub record IsEnded (board : Board) (weights : List ℕ) (before : List (List ℕ
   pub over : ¬ FitsUses round
 
 -- there is one list of so many rounds from these weights and trees that the value and the bound both meet,
--- and the candidate
--- is of the last of them that fits
+-- and the candidate is of the last of them that fits
 pub record MeetsFrom (board : Board) (count : ℕ) (weights : List ℕ) (before : List (List ℕ)) (value bound : ℕ)
     (last : Option Candidate) : Type 0 where
   pub rounds : List Round

@@ -29,8 +29,7 @@ AskRounds (word ∷ []) rounds = IsNumber most_rounds word rounds
 AskRounds _ rounds = ⊥
 
 -- the words are `route BOARD SOLUTION CERT`, or these and a number of rounds, each name of at least one byte,
--- and the
--- outputs two files
+-- and the outputs two files
 pub record IsRoute (words : List (List ℕ)) (board solution cert : List ℕ) (rounds : ℕ) : Type 0 where
   pub further : List (List ℕ)
   pub words_are : words ≡ codes "route" ∷ board ∷ solution ∷ cert ∷ further
