@@ -19,6 +19,7 @@ route b s c|4 3 1 1/0 1/0 2/0 3/1 2 3/0/|0|value 6/bound 6/|3/0 2/1 2/2 2/
 route b s c 0|4 3 1 1/0 1/0 2/0 3/1 2 3/0/|0|value 6/bound 6/|3/0 2/1 2/2 2/
 route b s c|4 3 3 3/0 1/0 2/0 3/1 2 3/1 2 3/1 2 3/0/1/2/|0|value 12/bound 10/|3/0 2/1 2/2 2/3/0 4/1 4/2 4/3/0 4/1 4/2 4/
 route b s c|0 0 0 0/|0|value 0/bound 0/|
+route b s c|2 1 3 0/0 1/0 1/0 1/0 1/|0|value 0/bound 0/|1/0 2/1/0 4/1/0 4/
 route b s c|2 1 1 1/0 1/1 1 1/0/|0|value 0/bound 0/|0/
 route b s c|2 1 1 1/0 1/0 1/0 0/|0|value 2/bound 2/|1/0 2/
 route b s c|2 1 1 1\r/\r/0 1\r/  \r/0 1\r/0|0|value 2/bound 2/|1/0 2/

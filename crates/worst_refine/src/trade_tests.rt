@@ -116,9 +116,12 @@ fn a_trade_from_numbers_is_below_the_best_or_nothing(rt: HostRuntime) -> Result<
 
 #[test]
 fn a_trade_lowers_the_sum_of_the_worst_group(rt: HostRuntime) -> Result<(), Fail> {
-    let problem = five_nets(rt.alloc())?;
+    let three = three_nets(rt.alloc())?;
+    let mut solution = on_wire_0(rt.alloc(), &[2, 4, 4])?;
+    assert_eq!(rt; traded_value(rt.alloc(), &three, &mut solution, 5)?, 10);
+    let five = five_nets(rt.alloc())?;
     let mut solution = on_wire_0(rt.alloc(), &[4, 4, 6, 6, 6])?;
-    assert_eq!(rt; traded_value(rt.alloc(), &problem, &mut solution, 5)?, 18);
+    assert_eq!(rt; traded_value(rt.alloc(), &five, &mut solution, 5)?, 18);
     Ok(())
 }
 

@@ -17,9 +17,9 @@ pub returns-in_ok-push-clause-next : goal.returns-in_ok-push-clause-next
 returns-in_ok-push-clause-next c =
     let apart = c.in_ok-build.ensures.none c.if-branch.false c.args.problem.now c.requires.board in
     let next = progress-missing c.args.problem.now c.args.n _ _ _ c.requires.so_far
-        (λ joined. apart (subst (IsConnectable c.args.problem.now) c.net.ensures.value joined)) in
+    (λ joined. apart (subst (IsConnectable c.args.problem.now) c.net.ensures.value joined)) in
     subst (IsProgress c.args.problem.now (c.args.n + 1) c.args.self.now.trees c.args.self.now.used)
-        (sym c.in_ok-push.ensures.items) next
+    (sym c.in_ok-push.ensures.items) next
 
 pub returns-in_ok-keep-clause-next : goal.returns-in_ok-keep-clause-next
 returns-in_ok-keep-clause-next c =
