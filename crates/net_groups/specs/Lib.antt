@@ -1,2 +1,3 @@
 pub mod Incidence
 pub mod Running
+pub mod Samples
