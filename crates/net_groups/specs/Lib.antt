@@ -1,3 +1,4 @@
+pub mod Gathering
 pub mod Incidence
 pub mod Running
 pub mod Samples
