@@ -3,6 +3,7 @@ ghost use Rattle.std.specs.Prelude.{◌≡◌, [], ◌∷◌, map};
 ghost use Rattle.tdm_problem.specs.Routing.{with_ratio};
 ghost use Rattle.tdm_problem.specs.Samples.{on_wire_0, shared};
 ghost use Rattle.tdm_problem.specs.Value.{group_sum, value_of};
+ghost use Rattle.net_groups.specs.Gathering.{holder_count, IsFilled};
 ghost use Rattle.net_groups.specs.Incidence.{groups_of, holders_before, sum_before, weight_of, IsGroupRow, IsIncidenceOf, IsNetGroups};
 ghost use Rattle.net_groups.specs.Running.{AreSums, IsWorst};
 ghost use Rattle.net_groups.specs.Samples.{held, ratios_2_6_6, two_groups};
@@ -27,6 +28,18 @@ fn a_row_of_groups_rises()
     ensures falling { ¬ IsGroupRow 2 (1 ∷ 0 ∷ []) }
     ensures twice { ¬ IsGroupRow 2 (0 ∷ 0 ∷ []) }
     ensures unknown { ¬ IsGroupRow 1 (1 ∷ []) }
+{}
+
+/// The groups stand in the rows of their nets, one row behind the other, and a cursor behind them.
+fn rows_are_filled_group_by_group()
+    ensures once { holder_count two_groups.groups 0 ≡ 1 }
+    ensures twice { holder_count two_groups.groups 1 ≡ 2 }
+    ensures nothing { IsFilled two_groups.groups 0 (0 ∷ 1 ∷ 3 ∷ []) (9 ∷ 9 ∷ 9 ∷ 9 ∷ []) }
+    ensures first_group { IsFilled two_groups.groups 1 (1 ∷ 2 ∷ 4 ∷ []) (0 ∷ 0 ∷ 9 ∷ 0 ∷ []) }
+    ensures both { IsFilled two_groups.groups 2 (1 ∷ 3 ∷ 4 ∷ []) (0 ∷ 0 ∷ 1 ∷ 0 ∷ []) }
+    ensures cursor_kept { ¬ IsFilled two_groups.groups 2 (1 ∷ 2 ∷ 4 ∷ []) (0 ∷ 0 ∷ 1 ∷ 0 ∷ []) }
+    ensures other_row { ¬ IsFilled two_groups.groups 2 (1 ∷ 3 ∷ 4 ∷ []) (1 ∷ 0 ∷ 1 ∷ 0 ∷ []) }
+    ensures too_long { ¬ IsFilled two_groups.groups 2 (1 ∷ 3 ∷ 4 ∷ []) (0 ∷ 0 ∷ 1 ∷ 0 ∷ 0 ∷ []) }
 {}
 
 /// Each net of the board has its row, with all groups that hold the net.
