@@ -1,3 +1,4 @@
+pub mod Filled
 pub mod Gathered
 pub mod Holders
 pub mod KeptSums

@@ -1,2 +1,4 @@
+pub mod Gathering
 pub mod Incidence
 pub mod Running
+pub mod Samples

@@ -6,7 +6,7 @@ ghost use Rattle.tdm_problem.specs.Value.{group_sum};
 ghost use Rattle.tdm_problem.specs.Weights.{net_weight};
 ghost use Rattle.net_groups.specs.Incidence.{groups_of, weight_of, sum_before, IsNetGroups, IsGroupRow, IsIncidenceOf};
 
-use crate::gathering::{Holders, gather};
+use crate::gathering::gather;
 use crate::summing::{add_to, sum_of_uses, sum_of_weights};
 use flat_rows::FlatRows;
 use std::alloc::{AllocError, Global};
@@ -31,13 +31,12 @@ impl Model for Incidence {
 }
 
 impl Incidence {
-    /// The groups of each net of a problem, in time and memory in proportion to the nets that the groups
-    /// list. The only error is want of memory.
+    /// The groups of each net of a problem, in time and memory in proportion to the nets, the groups and the
+    /// nets that the groups list. The only error is want of memory.
     pub fn of(alloc: Global, problem: &Problem) -> Result<Incidence, AllocError>
         ensures { IfOk result (λ incidence. IsIncidenceOf problem.now incidence) }
     {
-        let lists = gather(alloc, problem)?;
-        let of_nets = rows_of(alloc, &lists)?;
+        let of_nets = gather(alloc, problem)?;
         Ok(Incidence {
             groups: problem.groups(),
             of_nets,
@@ -105,15 +104,4 @@ impl Incidence {
         }
         Ok(sums)
     }
-}
-
-/// The groups of all nets, one net after another in one list.
-fn rows_of(alloc: Global, lists: &[Holders]) -> Result<FlatRows<u32>, AllocError>
-    ensures { IfOk result (λ rows. rows ≡ lists.now) }
-{
-    let mut rows = FlatRows::new(alloc);
-    for list in lists {
-        rows.push_row(list.groups())?;
-    }
-    Ok(rows)
 }

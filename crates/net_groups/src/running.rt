@@ -58,7 +58,8 @@ impl RunningSums {
         self.sums[g as usize]
     }
 
-    /// The least-numbered group with the largest sum; none where there is no group.
+    /// The least-numbered group with the largest sum; none where there is no group. It looks at each sum, in
+    /// time in proportion to the groups.
     pub fn worst(&self) -> Option<u32>
         ensures none { (result ≡ None) ↔ (self.now ≡ []) }
         ensures worst { IfSome result (IsWorst self.now) }
@@ -70,10 +71,13 @@ impl RunningSums {
     }
 
     /// Writes a new ratio into the use at a place of net `n`, as [`Solution::set_ratio`] does, and keeps the
-    /// sums those of the solution. It takes no memory.
+    /// sums those of the solution. It takes no memory, and time in proportion to the groups that hold the
+    /// net: which sum is largest is not kept.
     ///
     /// The solution has as many nets as the incidence, and the sums are those that it gives the groups. Where
-    /// a sum leaves no room for the step in 128 bits, all sums are made anew from the solution.
+    /// a sum left no room for the step in 128 bits, all sums would be made anew from the solution, in time in
+    /// proportion to its uses and to the groups of all nets. With ratios of 32 bits, at most 2^32 uses a net
+    /// and at most 2^20 nets every sum is below 2^84, so this does not happen.
     pub fn set_ratio(
         &mut self,
         incidence: &Incidence,
@@ -88,6 +92,8 @@ impl RunningSums {
         requires sums { AreSums incidence.now solution.old self.old }
         ensures changed { solution.new ≡ with_ratio solution.old n place ratio }
         ensures sums { AreSums incidence.now solution.new self.new }
+        ensures board { (board : Board) → IsBoard board → IsIncidenceOf board incidence.now
+            → self.new ≡ map (group_sum solution.new) board.groups }
     {
         let before = solution.uses(n)[place as usize].ratio;
         solution.set_ratio(n, place, ratio);
@@ -100,6 +106,7 @@ impl RunningSums {
         ) {
             return;
         }
+        // No clause bounds the ratios of nets that are not read here, so room is tested and not proved.
         sum_anew(&mut self.sums, incidence, solution);
     }
 }

@@ -1,7 +1,8 @@
-use Rattle.std.proofs.Common.{◌≡◌, ◌++◌, List, ℕ, length, take, drop, refl, sym, ◌∙◌, subst, arith}
+use Rattle.std.proofs.Common.{◌≡◌, ◌++◌, List, ℕ, length, take, drop, refl, sym, ap, ◌∙◌, subst, arith}
 use Rattle.std.proofs.lemmas.List.{take_at}
 use Rattle.std.proofs.lemmas.List.Kept.{AllPairs-from_increasing}
 use Rattle.net_groups.specs.Running.{AreSums}
+use Rattle.net_groups.proofs.Holders.{sums-board}
 use Rattle.net_groups.proofs.KeptSums.{kept}
 use Rattle.net_groups.proofs.running.RunningSums.set_ratio.Goals as goal
 
@@ -34,3 +35,21 @@ returns-then-exchange-clause-sums c =
     c.requires.place_there
     c.requires.nets c.from.ensures c.from-2.ensures were c.exchange.ensures.count
     (c.if-exchange.ensures.each refl))
+
+pub returns-then-exchange-clause-board : goal.returns-then-exchange-clause-board
+returns-then-exchange-clause-board c board ok is =
+    let sums = returns-then-exchange-clause-sums c in
+    sums-board board c.args.incidence.now c.set_ratio.new.self _ ok is sums.count sums.each
+
+pub returns-clause-sums : goal.returns-clause-sums
+returns-clause-sums c =
+    let size : length c.sum_anew.new.sums ≡ c.self.inside.sums.len = c.sum_anew.ensures.count
+    ∙ sym c.requires.sums.count ∙ ap length (sym c.self.view_is ∙ sym c.deref_mut.ensures.value)
+    ∙ c.deref_mut.ensures.len in
+    subst (λ (xs : List ℕ). AreSums c.args.incidence.now c.set_ratio.new.self xs)
+    (sym (take_at c.sum_anew.new.sums _ c.self.inside.sums.len size)) c.sum_anew.ensures
+
+pub returns-clause-board : goal.returns-clause-board
+returns-clause-board c board ok is =
+    let sums = returns-clause-sums c in
+    sums-board board c.args.incidence.now c.set_ratio.new.self _ ok is sums.count sums.each
