@@ -2,12 +2,13 @@
 ghost use Rattle.std.specs.Prelude.{◌≡◌, Ok, IfOk, IfErr};
 ghost use Rattle.bound_cert.specs.Certificate.{IsCertFor};
 ghost use Rattle.bound_cert.specs.CertReading.{cert_of};
-ghost use Rattle.bound_cert.specs.CertFaults.{IsFaultOf};
+ghost use Rattle.tdm_lines.specs.Refusals.{IsFaultOf};
 
 use crate::certificate::Certificate;
 use crate::reader::CertReader;
-use crate::refusal::{CertFault, CertTextKind, refused};
+use crate::refusal::{CertFault, CertTextKind};
 use std::alloc::Global;
+use tdm_lines::refused;
 use tdm_problem::Problem;
 
 /// The most bytes of a certificate text, which are 2^30.
@@ -15,7 +16,7 @@ pub const MAX_CERT_BYTES: usize = 1_073_741_824;
 
 /// Reads the text of a certificate for the problem: a header of the version, the kind, its unit and the number of
 /// potentials, then a line for each weight, for each length unless the certificate is by hops, for each potential
-/// and for each choice of a net.
+/// and, unless nets grow, for each choice of a net.
 ///
 /// Whether the potentials are valid is not asked. A text of more than 2^30 bytes may be cut one byte past them,
 /// since it is refused all the same.
