@@ -90,6 +90,9 @@ def blocks_of(path):
         if line.lstrip().startswith("-- "):
             comment.append(line.strip()[3:])
         elif re.match(r"\s*module\s", line):
+            while not re.search(r"\bwhere\s*$", line) and number + 1 < len(lines):
+                number += 1
+                line += " " + lines[number].strip()
             heads.append((depth, line))
             comment = []
         elif START.match(line):

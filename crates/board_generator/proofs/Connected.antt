@@ -23,9 +23,13 @@ module _ (f n g : ℕ) where
       let wire : Wire = wire_over f 1 i in
       let count : length ring ≡ f = length-map-range_with_len (wire_over f 1) 0 f in
       let there : i < length ring = omega (arith, count, before) in
-      let is : get_or (ring ++ others) i wire ≡ wire = get_or-append ring others wire i there ∙ get_or-map-range_with_len (wire_over f 1) 0 f i i wire (omega (arith, before)) (zero-add i) in
-      let found : slice_get (ring ++ others) i ≡ Some wire = slice_get-get_or (ring ++ others) i wire (omega (arith, there, length-append ring others)) ∙ ap Some is in
-      subst (λ b. Links (generated f n g) i i b) (mod-eq_of_lt before) (Links-ends (generated f n g) i wire found)
+      let is : get_or (ring ++ others) i wire ≡ wire = get_or-append ring others wire i there
+      ∙ get_or-map-range_with_len (wire_over f 1) 0 f i i wire (omega (arith, before)) (zero-add i) in
+      let found : slice_get (ring ++ others) i ≡ Some wire =
+      slice_get-get_or (ring ++ others) i wire (omega (arith, there, length-append ring others))
+      ∙ ap Some is in
+      subst (λ b. Links (generated f n g) i i b) (mod-eq_of_lt before)
+      (Links-ends (generated f n g) i wire found)
 
   -- along the ring from FPGA 0
   around : (a : ℕ) → a < f → (es : List ℕ) × IsWalk (generated f n g) (AnyWire (generated f n g)) 0 es a
@@ -33,12 +37,18 @@ module _ (f n g : ℕ) where
   around (suc a) there =
       let walk = around a (omega (arith, there)) in
       let next : a + 1 ≡ suc a = omega arith in
-      let link : Links (generated f n g) a a (suc a) = subst (λ b. Links (generated f n g) a a b) next (ring_wire a (omega (arith, there))) in
-      let last = IsWalk-one (generated f n g) (AnyWire (generated f n g)) a a (suc a) (AnyWire-from_links (generated f n g) a a (suc a) link) link in
-      (walk.0 ++ a ∷ [], IsWalk-append (generated f n g) (AnyWire (generated f n g)) 0 walk.0 a (a ∷ []) (suc a) walk.1 last)
+      let link : Links (generated f n g) a a (suc a) =
+      subst (λ b. Links (generated f n g) a a b) next (ring_wire a (omega (arith, there))) in
+      let last = IsWalk-one (generated f n g) (AnyWire (generated f n g)) a a (suc a)
+      (AnyWire-from_links (generated f n g) a a (suc a) link) link in (
+        walk.0 ++ a ∷ [],
+        IsWalk-append (generated f n g) (AnyWire (generated f n g)) 0 walk.0 a (a ∷ [])
+            (suc a) walk.1 last,
+      )
 
   pub all_joined : IsBoard (generated f n g) → AllConnectable (generated f n g)
   all_joined is k there =
       let fpgas : List ℕ = terminals_of (generated f n g) k in
       let below : All (λ x. x < f) fpgas = (is.nets k [] there).below in
-      Joins-from_source (generated f n g) (AnyWire (generated f n g)) 0 fpgas (λ b held. around b (All-contains (λ x. x < f) fpgas b below held))
+      Joins-from_source (generated f n g) (AnyWire (generated f n g)) 0 fpgas
+      (λ b held. around b (All-contains (λ x. x < f) fpgas b below held))

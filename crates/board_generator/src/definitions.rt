@@ -6,8 +6,14 @@ ghost use Rattle.board_generator.specs.Generated.{generated, group_of, net_of, w
 fn three_numbers_give_a_board()
     ensures { generated 4 3 2 ≡ record {
       fpgas = 4;
-      wires = record { a = 0; b = 1 } ∷ record { a = 1; b = 2 } ∷ record { a = 2; b = 3 } ∷ record { a = 3; b = 0 }
-          ∷ record { a = 0; b = 2 } ∷ record { a = 1; b = 3 } ∷ record { a = 2; b = 0 } ∷ record { a = 3; b = 1 } ∷ [];
+      wires = record { a = 0; b = 1 } ∷ record { a = 1; b = 2 } ∷ record { a = 2; b = 3 } ∷ record {
+        a = 3;
+        b = 0;
+      }
+          ∷ record { a = 0; b = 2 } ∷ record { a = 1; b = 3 } ∷ record { a = 2; b = 0 } ∷ record {
+            a = 3;
+            b = 1;
+          } ∷ [];
       nets = (0 ∷ 3 ∷ 1 ∷ []) ∷ (3 ∷ 2 ∷ []) ∷ (2 ∷ 1 ∷ 3 ∷ []) ∷ [];
       groups = (0 ∷ 1 ∷ 2 ∷ []) ∷ (1 ∷ []) ∷ [];
     } }

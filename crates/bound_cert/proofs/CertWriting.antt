@@ -49,23 +49,37 @@ module _ (cert : Cert) where
     stopped_at_potentials after fault = prefix_first slot to_potentials choices_text before after fault
 
     stopped_at_lengths : (after : Seen) → Stopped to_lengths after → Stopped (cert_text cert) after
-    stopped_at_lengths after fault = stopped_at_potentials after (prefix_first slot to_lengths potentials_text before after fault)
+    stopped_at_lengths after fault =
+        stopped_at_potentials after (prefix_first slot to_lengths potentials_text before after fault)
 
     stopped_at_weights : (after : Seen) → Stopped to_weights after → Stopped (cert_text cert) after
-    stopped_at_weights after fault = stopped_at_lengths after (prefix_first slot to_weights lengths_text before after fault)
+    stopped_at_weights after fault =
+        stopped_at_lengths after (prefix_first slot to_weights lengths_text before after fault)
 
     pub stopped_at_header : (after : Seen) → Stopped to_header after → Stopped (cert_text cert) after
-    stopped_at_header after fault = stopped_at_weights after (prefix_first slot to_header weights_text before after fault)
+    stopped_at_header after fault =
+        stopped_at_weights after (prefix_first slot to_header weights_text before after fault)
 
     module _ (pending : Bytes) (between after : Seen) where
-      pub stopped_in_weights : Way to_header pending between → PrefixWritten slot (pending ++ weights_text) between after → Stopped (cert_text cert) after
-      stopped_in_weights way fault = stopped_at_weights after (prefix_later slot to_header before pending between weights_text after way fault)
+      pub stopped_in_weights : Way to_header pending between
+          → PrefixWritten slot (pending ++ weights_text) between after → Stopped (cert_text cert) after
+      stopped_in_weights way fault =
+          stopped_at_weights after (prefix_later slot to_header before pending between weights_text after way
+          fault)
 
-      pub stopped_in_lengths : Way to_weights pending between → PrefixWritten slot (pending ++ lengths_text) between after → Stopped (cert_text cert) after
-      stopped_in_lengths way fault = stopped_at_lengths after (prefix_later slot to_weights before pending between lengths_text after way fault)
+      pub stopped_in_lengths : Way to_weights pending between
+          → PrefixWritten slot (pending ++ lengths_text) between after → Stopped (cert_text cert) after
+      stopped_in_lengths way fault =
+          stopped_at_lengths after (prefix_later slot to_weights before pending between lengths_text after way
+          fault)
 
-      pub stopped_in_potentials : Way to_lengths pending between → PrefixWritten slot (pending ++ potentials_text) between after → Stopped (cert_text cert) after
-      stopped_in_potentials way fault = stopped_at_potentials after (prefix_later slot to_lengths before pending between potentials_text after way fault)
+      pub stopped_in_potentials : Way to_lengths pending between
+          → PrefixWritten slot (pending ++ potentials_text) between after → Stopped (cert_text cert) after
+      stopped_in_potentials way fault =
+          stopped_at_potentials after (prefix_later slot to_lengths before pending between potentials_text
+          after way fault)
 
-      pub stopped_in_choices : Way to_potentials pending between → PrefixWritten slot (pending ++ choices_text) between after → Stopped (cert_text cert) after
-      stopped_in_choices way fault = prefix_later slot to_potentials before pending between choices_text after way fault
+      pub stopped_in_choices : Way to_potentials pending between
+          → PrefixWritten slot (pending ++ choices_text) between after → Stopped (cert_text cert) after
+      stopped_in_choices way fault = prefix_later slot to_potentials before pending between choices_text after
+          way fault

@@ -35,16 +35,20 @@ module _ (board : Board) (source : ℕ) where
   }
 
   -- a step below the limit is over another wire than the step from the limit
-  other_wire : (v u e d hops : ℕ) → Links board e v u → IsHopCount board source u hops → IsHopCount board source v (hops + 1) → IsStepBelow hops d → e ≢ d
+  other_wire : (v u e d hops : ℕ) → Links board e v u → IsHopCount board source u hops
+      → IsHopCount board source v (hops + 1) → IsStepBelow hops d → e ≢ d
   other_wire v u e d hops links at_u at_v step same =
-      go (ends-same board e v u step.far step.near links (subst (λ (w : ℕ). Links board w step.far step.near) (sym same) step.links))
+      go (ends-same board e v u step.far step.near links (subst (λ (w : ℕ). Links board w step.far step.near)
+      (sym same) step.links))
     where
       go : ((v ≡ step.far) × (u ≡ step.near)) ⊎ ((v ≡ step.near) × (u ≡ step.far)) → ⊥
       go (inl ends) =
-          let at : IsHopCount board source u step.hops = subst (λ (x : ℕ). IsHopCount board source x step.hops) (sym ends.1) step.at_near in
+          let at : IsHopCount board source u step.hops =
+          subst (λ (x : ℕ). IsHopCount board source x step.hops) (sym ends.1) step.at_near in
           omega (arith, hops_unique board source u hops step.hops at_u at, step.below)
       go (inr ends) =
-          let at : IsHopCount board source v step.hops = subst (λ (x : ℕ). IsHopCount board source x step.hops) (sym ends.0) step.at_near in
+          let at : IsHopCount board source v step.hops =
+          subst (λ (x : ℕ). IsHopCount board source x step.hops) (sym ends.0) step.at_near in
           omega (arith, hops_unique board source v (hops + 1) step.hops at_v at, step.below)
 
   record IsChainOf (limit : ℕ) (es : List ℕ) : Type 0 where
@@ -52,8 +56,14 @@ module _ (board : Board) (source : ℕ) where
     distinct : AllPairs (λ x y. x ≢ y) es
     there : All (λ e. e < length board.wires) es
 
-  chain_of : (v d : ℕ) (es : List ℕ) → IsHopCount board source v d → IsParentChain board source v es source → IsChainOf d es
-  chain_of v d [] at chain = record { steps = λ k e below. absurd (omega arith); distinct = λ i j e before below. absurd (omega arith); there = λ k e below. absurd (omega arith) }
+  chain_of : (v d : ℕ) (es : List ℕ) → IsHopCount board source v d → IsParentChain board source v es source
+      → IsChainOf d es
+  chain_of v d [] at chain = record {
+    steps = λ k e below. absurd (omega arith);
+    distinct =
+        λ i j e before below. absurd (omega arith);
+    there = λ k e below. absurd (omega arith);
+  }
   chain_of v d (e ∷ es) at chain = made (chain_of u hops es at_u chain.2)
     where
       u : ℕ
@@ -76,16 +86,27 @@ module _ (board : Board) (source : ℕ) where
           let top : hops + 1 ≡ d = hops_unique board source v (hops + 1) d at_v at in
           record {
             steps = All-cons (IsStepBelow d) e es
-                (record { far = v; near = u; hops = hops; below = omega arith; links = parent.links; at_near = at_u; at_far = at_v })
+                (record {
+                  far = v;
+                  near = u;
+                  hops = hops;
+                  below = omega arith;
+                  links = parent.links;
+                  at_near = at_u;
+                  at_far = at_v;
+                })
                 (All-weaker (IsStepBelow hops) (IsStepBelow d) (raised hops d (omega arith)) es rest.steps);
             distinct = AllPairs-cons (λ (x y : ℕ). x ≢ y) e es
-                (All-weaker (IsStepBelow hops) (λ w. e ≢ w) (λ w step. other_wire v u e w hops parent.links at_u at_v step) es rest.steps)
+                (All-weaker (IsStepBelow hops) (λ w. e ≢ w)
+                (λ w step. other_wire v u e w hops parent.links at_u at_v step) es rest.steps)
                 rest.distinct;
-            there = All-cons (λ w. w < length board.wires) e es (AnyWire-from_links board e v u parent.links) rest.there;
+            there = All-cons (λ w. w < length board.wires) e es (AnyWire-from_links board e v u parent.links)
+                rest.there;
           }
 
   -- a parent chain is no longer than the board has wires
-  pub chain_short : (v d : ℕ) (es : List ℕ) → IsHopCount board source v d → IsParentChain board source v es source → length es ≤ length board.wires
+  pub chain_short : (v d : ℕ) (es : List ℕ) → IsHopCount board source v d
+      → IsParentChain board source v es source → length es ≤ length board.wires
   chain_short v d es at chain =
       let made = chain_of v d es at chain in
       length_of_distinct es (length board.wires) made.distinct made.there

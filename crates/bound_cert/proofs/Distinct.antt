@@ -7,7 +7,8 @@ use Rattle.std.proofs.lemmas.List.Folds.{Any-from_list_any}
 use Rattle.std.proofs.lemmas.Map.Steps.{length-le_from_distinct_below}
 use Rattle.std.proofs.lemmas.Map.Made.{IsDistinct-from_AllPairs}
 
-pub length_of_distinct : (xs : List ℕ) (n : ℕ) → AllPairs (λ x y. x ≢ y) xs → All (λ x. x < n) xs → length xs ≤ n
+pub length_of_distinct : (xs : List ℕ) (n : ℕ) → AllPairs (λ x y. x ≢ y) xs → All (λ x. x < n) xs
+    → length xs ≤ n
 length_of_distinct xs n distinct below =
     length-le_from_distinct_below xs n (IsDistinct-from_AllPairs {eq = eqb} unsigned_Decides xs distinct)
     (λ q found. here q (Any-from_list_any (λ y. eqb q y) xs found))

@@ -27,8 +27,10 @@ depths_unique board xs ys first second =
 
 pub hop_floor_unique : (board : Board) (a b : ℕ) → IsHopFloor board a → IsHopFloor board b → a ≡ b
 hop_floor_unique board a b first second =
-    first.floor_is ∙ ap (hop_floor board) (depths_unique board first.depths second.depths first.are_depths second.are_depths) ∙ sym second.floor_is
+    first.floor_is ∙ ap (hop_floor board) (depths_unique board first.depths second.depths first.are_depths
+    second.are_depths) ∙ sym second.floor_is
 
 pub share_floor_unique : (board : Board) (a b : ℕ) → IsShareFloor board a → IsShareFloor board b → a ≡ b
 share_floor_unique board a b first second =
-    first.floor_is ∙ ap (share_floor board) (depths_unique board first.depths second.depths first.are_depths second.are_depths) ∙ sym second.floor_is
+    first.floor_is ∙ ap (share_floor board) (depths_unique board first.depths second.depths first.are_depths
+    second.are_depths) ∙ sym second.floor_is

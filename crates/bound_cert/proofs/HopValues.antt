@@ -17,12 +17,18 @@ use Rattle.bound_cert.proofs.ChainLaws.{chain_short}
 abbrev pub or_zero : Option ℕ → ℕ
 or_zero x = unwrap_or x 0
 
-value_of : (board : Board) (wire_length : ℕ → ℕ) (root f : ℕ) (x : Option ℕ) → MatchOption x (HasNoWalk board root f) (IsDistance board wire_length root f) → IsRootValue board wire_length root f (or_zero x)
+value_of : (board : Board) (wire_length : ℕ → ℕ) (root f : ℕ) (x : Option ℕ)
+    → MatchOption x (HasNoWalk board root f) (IsDistance board wire_length root f)
+    → IsRootValue board wire_length root f (or_zero x)
 value_of board wire_length root f None none = inr (none, refl)
 value_of board wire_length root f (Some d) distance = inl distance
 
 -- distances from a root are a potential
-pub IsRootPotential-from_distances : (board : Board) (wire_length : ℕ → ℕ) (root : ℕ) (distances : List (Option ℕ)) → length distances ≡ board.fpgas → ((f : ℕ) → f < board.fpgas → MatchOption (get_or distances f None) (HasNoWalk board root f) (IsDistance board wire_length root f)) → IsRootPotential board wire_length root (map or_zero distances)
+pub IsRootPotential-from_distances : (board : Board) (wire_length : ℕ
+    → ℕ) (root : ℕ) (distances : List (Option ℕ)) → length distances ≡ board.fpgas
+    → ((f : ℕ) → f < board.fpgas → MatchOption (get_or distances f None) (HasNoWalk board root f)
+    (IsDistance board wire_length root f))
+    → IsRootPotential board wire_length root (map or_zero distances)
 IsRootPotential-from_distances board wire_length root distances count exact = record {
   count = length-map distances or_zero ∙ count;
   values = λ f below.
@@ -36,11 +42,13 @@ bounded : (x : Option ℕ) (most : ℕ) → ((d : ℕ) → x ≡ Some d → d �
 bounded None most bound = omega arith
 bounded (Some d) most bound = bound d refl
 
-pub all_bounded : (reach : Reach) (most : ℕ) → ((f d : ℕ) → distance_of reach f ≡ Some d → d ≤ most) → All (λ v. v ≤ most) (map or_zero reach.distances)
+pub all_bounded : (reach : Reach) (most : ℕ) → ((f d : ℕ) → distance_of reach f ≡ Some d → d ≤ most)
+    → All (λ v. v ≤ most) (map or_zero reach.distances)
 all_bounded reach most bound =
     All-map (λ v. v ≤ most) or_zero reach.distances
     (λ f e below.
-    subst (λ (x : Option ℕ). or_zero x ≤ most) (get_or_default reach.distances f None e below) (bounded (distance_of reach f) most (bound f)))
+    subst (λ (x : Option ℕ). or_zero x ≤ most) (get_or_default reach.distances f None e below)
+    (bounded (distance_of reach f) most (bound f)))
 
 module _ (graph : Graph) (reach : Reach) (is : IsGraph graph) (forest : IsHopForest graph reach) where
   -- no distance is more than the number of FPGAs
@@ -59,9 +67,13 @@ module _ (graph : Graph) (reach : Reach) (is : IsGraph graph) (forest : IsHopFor
       let hops = hops_at (board_of graph) reach.root reach.distances has.distances f d at in
       omega (arith, chain_short (board_of graph) reach.root f d chain.0 hops chain.1, chain.2))
 
-  pub all_hops : (root : ℕ) → reach.root ≡ root → (board : Board) → graph ≡ graph_of board → IsRootPotential board (λ _. 1) root (map or_zero reach.distances)
+  pub all_hops : (root : ℕ) → reach.root ≡ root → (board : Board) → graph ≡ graph_of board
+      → IsRootPotential board (λ _. 1) root (map or_zero reach.distances)
   all_hops root at board same =
-      subst (λ (r : ℕ). IsRootPotential board (λ _. 1) r (map or_zero reach.distances)) at (from_hops (forest.on_board board same))
+      subst (λ (r : ℕ). IsRootPotential board (λ _. 1) r (map or_zero reach.distances)) at
+      (from_hops (forest.on_board board same))
     where
-      from_hops : HasHops board reach → IsRootPotential board (λ _. 1) reach.root (map or_zero reach.distances)
-      from_hops has = IsRootPotential-from_distances board (λ _. 1) reach.root reach.distances has.distances.count has.distances.exact
+      from_hops : HasHops board reach
+          → IsRootPotential board (λ _. 1) reach.root (map or_zero reach.distances)
+      from_hops has = IsRootPotential-from_distances board (λ _. 1) reach.root reach.distances
+          has.distances.count has.distances.exact

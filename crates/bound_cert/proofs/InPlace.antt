@@ -13,11 +13,13 @@ module _ {A : Type 0} (R : A → A → Type 0) (d : A) where
   pub replaced_none : (old : List A) → IsReplacedBelow 0 old old
   replaced_none old = record { count = refl; done = λ k below. absurd (omega arith); left = λ k past. refl }
 
-  pub replaced_more : (n : ℕ) (old new : List A) (x : A) → n < length new → IsReplacedBelow n old new → R (get_or new n d) x → IsReplacedBelow (n + 1) old (set new n x)
+  pub replaced_more : (n : ℕ) (old new : List A) (x : A) → n < length new → IsReplacedBelow n old new
+      → R (get_or new n d) x → IsReplacedBelow (n + 1) old (set new n x)
   replaced_more n old new x there so_far next = record {
     count = length-set new n x ∙ so_far.count;
     done = λ k below. go k (cases_eq k n) below;
-    left = λ k past. get_or-set_other new n k x d (λ same. absurd (omega arith)) ∙ so_far.left k (omega arith);
+    left = λ k past. get_or-set_other new n k x d (λ same. absurd (omega arith))
+        ∙ so_far.left k (omega arith);
   }
     where
       go : (k : ℕ) → (k ≡ n) ⊎ (k ≡ n → ⊥) → k < n + 1 → R (get_or old k d) (get_or (set new n x) k d)
@@ -26,4 +28,5 @@ module _ {A : Type 0} (R : A → A → Type 0) (d : A) where
           (subst (λ (y : A). R (get_or old n d) y) (sym (get_or-set_same new n x d there))
           (subst (λ (y : A). R y x) (so_far.left n (omega arith)) next))
       go k (inr other) below =
-          subst (λ (y : A). R (get_or old k d) y) (sym (get_or-set_other new n k x d other)) (so_far.done k (omega arith))
+          subst (λ (y : A). R (get_or old k d) y) (sym (get_or-set_other new n k x d other))
+          (so_far.done k (omega arith))

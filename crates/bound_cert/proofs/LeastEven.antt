@@ -35,7 +35,8 @@ least_even-is_least demand zero positive = absurd (omega arith)
 least_even-is_least demand (suc d) positive = least-of_steps demand d
 
 -- an even number that reaches the demand is not below the least one
-pub least_even-le : (demand divisor half number : ℕ) → number ≡ 2 * half → demand ≤ divisor * number → least_even demand divisor ≤ number
+pub least_even-le : (demand divisor half number : ℕ) → number ≡ 2 * half → demand ≤ divisor * number
+    → least_even demand divisor ≤ number
 least_even-le demand zero half number even reached = omega arith
 least_even-le demand (suc d) half number even reached =
     let least : 2 * div_ceil demand (2 * suc d) ≤ 2 * half =

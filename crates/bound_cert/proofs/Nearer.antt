@@ -58,11 +58,18 @@ module _ (board : Board) where
         (decide-both (cases_eq wire.a v) (decide wire.b))
         (decide-both (cases_eq wire.b v) (decide wire.a))
 
-    leads-from_way : (e : ℕ) (wire : Wire) → slice_get board.wires e ≡ Some wire → IsEitherWay wire → LeadsTo P e v
-    leads-from_way e wire is (inl forth) = (wire.b, record { wire = wire; is = is; ends = inl (forth.0, refl) }, forth.1)
-    leads-from_way e wire is (inr back) = (wire.a, record { wire = wire; is = is; ends = inr (refl, back.0) }, back.1)
+    leads-from_way : (e : ℕ) (wire : Wire) → slice_get board.wires e ≡ Some wire → IsEitherWay wire
+        → LeadsTo P e v
+    leads-from_way e wire is (inl forth) =
+        (wire.b, record { wire = wire; is = is; ends = inl (forth.0, refl) }, forth.1)
+    leads-from_way e wire is (inr back) = (
+      wire.a,
+      record { wire = wire; is = is; ends = inr (refl, back.0) },
+      back.1,
+    )
 
-    way-from_leads : (e : ℕ) (wire : Wire) → slice_get board.wires e ≡ Some wire → LeadsTo P e v → IsEitherWay wire
+    way-from_leads : (e : ℕ) (wire : Wire) → slice_get board.wires e ≡ Some wire → LeadsTo P e v
+        → IsEitherWay wire
     way-from_leads e wire is (u, links, there) =
         let same : links.wire ≡ wire = same_Some links.wire wire (sym links.is ∙ is) in
         let at : IsEitherWay links.wire = ⊎_elim
@@ -84,7 +91,8 @@ module _ (board : Board) where
     decide-next [] = inr (λ next. omega (arith, next.1.1))
     decide-next (e ∷ es) = go (decide-leads e) (decide-next es)
       where
-        go : LeadsTo P e v ⊎ ¬ LeadsTo P e v → IsNext P es v ⊎ ¬ IsNext P es v → IsNext P (e ∷ es) v ⊎ ¬ IsNext P (e ∷ es) v
+        go : LeadsTo P e v ⊎ ¬ LeadsTo P e v → IsNext P es v ⊎ ¬ IsNext P es v → IsNext P (e ∷ es) v
+            ⊎ ¬ IsNext P (e ∷ es) v
         go (inl leads) rest = inl (e, (0, omega arith, refl), leads)
         go (inr none) (inl next) = inl (next.0, (suc next.1.0, omega (arith, next.1.1), next.1.2), next.2)
         go (inr none) (inr neither) = inr (λ next. other next)
@@ -136,19 +144,31 @@ module _ (board : Board) where
           listed = leads.listed;
           to = leads.to;
           links = leads.links;
-          nearer = omega (arith, leads.nearer, count-yes (decide-near k v) close, count-yes (decide-near k leads.to) leads.near);
+          nearer = omega (
+            arith,
+            leads.nearer,
+            count-yes (decide-near k v) close,
+            count-yes (decide-near k leads.to) leads.near,
+          );
           near = inl leads.near;
         }
 
-        go : IsNear k v ⊎ ¬ IsNear k v → IsNear k v ⊎ IsNext (IsNear k) wires v → (IsNear k v → (v ≡ root) ⊎ LeadsNearer k v) → (v ≡ root) ⊎ LeadsNearer (suc k) v
-        go (inl close) either before = ⊎_elim (λ (at : v ≡ root). inl at) (λ leads. inr (kept leads close)) (before close)
+        go : IsNear k v ⊎ ¬ IsNear k v → IsNear k v ⊎ IsNext (IsNear k) wires v
+            → (IsNear k v → (v ≡ root) ⊎ LeadsNearer k v) → (v ≡ root) ⊎ LeadsNearer (suc k) v
+        go (inl close) either before = ⊎_elim (λ (at : v ≡ root). inl at) (λ leads. inr (kept leads close))
+            (before close)
         go (inr far) (inl close) before = absurd (far close)
         go (inr far) (inr next) before = inr (record {
           wire = next.0;
           listed = next.1;
           to = next.2.0;
           links = next.2.1;
-          nearer = omega (arith, rank-far k v far, rank-le k next.2.0, count-yes (decide-near k next.2.0) next.2.2);
+          nearer = omega (
+            arith,
+            rank-far k v far,
+            rank-le k next.2.0,
+            count-yes (decide-near k next.2.0) next.2.2,
+          );
           near = inl next.2.2;
         })
 
@@ -164,7 +184,8 @@ module _ (board : Board) where
         (cases_lt k (suc m))
 
     -- a walk over the wires to the root
-    pub near-from_walk : (v : ℕ) (es : List ℕ) → IsWalk board (Contains wires) v es root → IsNear (length es) v
+    pub near-from_walk : (v : ℕ) (es : List ℕ) → IsWalk board (Contains wires) v es root
+        → IsNear (length es) v
     near-from_walk v [] walk = walk
     near-from_walk v (e ∷ es) walk =
         inr (e, walk.0, (walk.1.0, walk.1.1, near-from_walk walk.1.0 es walk.1.2))
@@ -172,7 +193,8 @@ module _ (board : Board) where
     -- a number for a wire, by what its ends have, the one that is farther from the root first
     abbrev pub along-wire : (k : ℕ) → (ℕ → ℕ → ℕ) → Option Wire → ℕ
     along-wire k f None = 0
-    along-wire k f (Some wire) = pick (cases_lt (rank k wire.b) (rank k wire.a)) (f wire.a wire.b) (f wire.b wire.a)
+    along-wire k f (Some wire) = pick (cases_lt (rank k wire.b) (rank k wire.a)) (f wire.a wire.b)
+        (f wire.b wire.a)
 
     abbrev pub along : (k : ℕ) → (ℕ → ℕ → ℕ) → ℕ → ℕ
     along k f e = along-wire k f (slice_get board.wires e)
@@ -185,33 +207,40 @@ module _ (board : Board) where
     pick-second (inl less) x y is = absurd (omega (arith, is, less))
     pick-second (inr not) x y is = refl
 
-    pub along-nearer : (k : ℕ) (f : ℕ → ℕ → ℕ) (e v u : ℕ) → Links board e v u → rank k u < rank k v → along k f e ≡ f v u
+    pub along-nearer : (k : ℕ) (f : ℕ → ℕ → ℕ) (e v u : ℕ) → Links board e v u → rank k u < rank k v
+        → along k f e ≡ f v u
     along-nearer k f e v u links less =
         ap (along-wire k f) links.is
         ∙ ⊎_elim
         (λ forth.
         let at_v = ap (rank k) forth.0 in
         let at_u = ap (rank k) forth.1 in
-        pick-first (cases_lt (rank k links.wire.b) (rank k links.wire.a)) (f links.wire.a links.wire.b) (f links.wire.b links.wire.a) (omega (arith, at_v, at_u, less))
+        pick-first (cases_lt (rank k links.wire.b) (rank k links.wire.a)) (f links.wire.a links.wire.b)
+        (f links.wire.b links.wire.a) (omega (arith, at_v, at_u, less))
         ∙ ap (λ (x : ℕ). f x links.wire.b) forth.0 ∙ ap (f v) forth.1)
         (λ back.
         let at_u = ap (rank k) back.0 in
         let at_v = ap (rank k) back.1 in
-        pick-second (cases_lt (rank k links.wire.b) (rank k links.wire.a)) (f links.wire.a links.wire.b) (f links.wire.b links.wire.a) (omega (arith, at_v, at_u, less))
+        pick-second (cases_lt (rank k links.wire.b) (rank k links.wire.a)) (f links.wire.a links.wire.b)
+        (f links.wire.b links.wire.a) (omega (arith, at_v, at_u, less))
         ∙ ap (λ (x : ℕ). f x links.wire.a) back.1 ∙ ap (f v) back.0)
         links.ends
 
     -- what holds of both ways over a wire holds of the way nearer to the root
-    pub along-each : (k : ℕ) (f g h : ℕ → ℕ → ℕ) (e : ℕ) → ((v u : ℕ) → Links board e v u → f v u + g v u ≤ h v u)
+    pub along-each : (k : ℕ) (f g h : ℕ → ℕ → ℕ) (e : ℕ)
+        → ((v u : ℕ) → Links board e v u → f v u + g v u ≤ h v u)
         → along k f e + along k g e ≤ along k h e
     along-each k f g h e each = go (slice_get board.wires e) refl
       where
-        both : (wire : Wire) → Links board e wire.a wire.b → (d : (rank k wire.b < rank k wire.a) ⊎ (rank k wire.a ≤ rank k wire.b))
-            → pick d (f wire.a wire.b) (f wire.b wire.a) + pick d (g wire.a wire.b) (g wire.b wire.a) ≤ pick d (h wire.a wire.b) (h wire.b wire.a)
+        both : (wire : Wire) → Links board e wire.a wire.b
+            → (d : (rank k wire.b < rank k wire.a) ⊎ (rank k wire.a ≤ rank k wire.b))
+            → pick d (f wire.a wire.b) (f wire.b wire.a) + pick d (g wire.a wire.b) (g wire.b wire.a)
+            ≤ pick d (h wire.a wire.b) (h wire.b wire.a)
         both wire links (inl less) = each wire.a wire.b links
         both wire links (inr not) = each wire.b wire.a (Links-sym board e wire.a wire.b links)
 
-        go : (found : Option Wire) → slice_get board.wires e ≡ found → along-wire k f found + along-wire k g found ≤ along-wire k h found
+        go : (found : Option Wire) → slice_get board.wires e ≡ found
+            → along-wire k f found + along-wire k g found ≤ along-wire k h found
         go None is = omega arith
         go (Some wire) is = both wire (Links-ends board e wire is) (cases_lt (rank k wire.b) (rank k wire.a))
 

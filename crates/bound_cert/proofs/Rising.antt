@@ -30,25 +30,35 @@ module _ (xs : List ℕ) where
     known : (y : ℕ) → Contains ys y → (start ≤ y) × Contains xs y
     whole : (y : ℕ) → start ≤ y → y < end → Contains xs y → Contains ys y
 
-  with-first : (start end : ℕ) (ys : List ℕ) → Contains xs start → AreFrom (suc start) end ys → AreFrom start end (start ∷ ys)
-  with-first start end ys listed are = record { rises = rises ys are; known = known; whole = λ y from below in_xs. whole y from below in_xs (cases_eq y start) }
+  with-first : (start end : ℕ) (ys : List ℕ) → Contains xs start → AreFrom (suc start) end ys
+      → AreFrom start end (start ∷ ys)
+  with-first start end ys listed are = record {
+    rises = rises ys are;
+    known = known;
+    whole = λ y from below in_xs. whole y from below in_xs (cases_eq y start);
+  }
     where
       rises : (zs : List ℕ) → AreFrom (suc start) end zs → IsStrictlyIncreasing (start ∷ zs)
       rises [] others k inside = absurd (omega (arith, inside))
       rises (z ∷ zs) others zero inside = omega (arith, (others.known z (0, omega arith, refl)).0)
       rises (z ∷ zs) others (suc k) inside =
           let same : suc (k + 1) ≡ suc k + 1 = omega arith in
-          subst (λ (i : ℕ). slice_index (z ∷ zs) k < slice_index (start ∷ z ∷ zs) i) same (others.rises k (omega (arith, inside)))
+          subst (λ (i : ℕ). slice_index (z ∷ zs) k < slice_index (start ∷ z ∷ zs) i) same
+          (others.rises k (omega (arith, inside)))
 
       known : (y : ℕ) → Contains (start ∷ ys) y → (start ≤ y) × Contains xs y
       known y (zero, inside, is) = (omega (arith, is), subst (λ (z : ℕ). Contains xs z) is listed)
-      known y (suc k, inside, is) = let behind = are.known y (k, omega (arith, inside), is) in (omega (arith, behind.0), behind.1)
+      known y (suc k, inside, is) = let behind = are.known y (k, omega (arith, inside), is) in
+          (omega (arith, behind.0), behind.1)
 
-      whole : (y : ℕ) → start ≤ y → y < end → Contains xs y → (y ≡ start) ⊎ ¬ (y ≡ start) → Contains (start ∷ ys) y
+      whole : (y : ℕ) → start ≤ y → y < end → Contains xs y → (y ≡ start) ⊎ ¬ (y ≡ start)
+          → Contains (start ∷ ys) y
       whole y from below in_xs (inl is) = (0, omega arith, sym is)
-      whole y from below in_xs (inr not) = later start y ys (are.whole y (omega (arith, from, not)) below in_xs)
+      whole y from below in_xs (inr not) =
+          later start y ys (are.whole y (omega (arith, from, not)) below in_xs)
 
-  without-first : (start end : ℕ) (ys : List ℕ) → ¬ Contains xs start → AreFrom (suc start) end ys → AreFrom start end ys
+  without-first : (start end : ℕ) (ys : List ℕ) → ¬ Contains xs start → AreFrom (suc start) end ys
+      → AreFrom start end ys
   without-first start end ys none are = record {
     rises = are.rises;
     known = λ y in_ys. let at = are.known y in_ys in (omega (arith, at.0), at.1);
@@ -59,12 +69,22 @@ module _ (xs : List ℕ) where
   }
 
   from : (start count : ℕ) → (ys : List ℕ) × AreFrom start (start + count) ys
-  from start zero = ([], record { rises = λ k inside. absurd (omega (arith, inside)); known = λ y in_ys. absurd (omega (arith, in_ys.1)); whole = λ y least below in_xs. absurd (omega (arith, least, below)) })
+  from start zero = (
+    [],
+    record {
+      rises = λ k inside. absurd (omega (arith, inside));
+      known = λ y in_ys. absurd (omega (arith, in_ys.1));
+      whole = λ y least below in_xs. absurd (omega (arith, least, below));
+    },
+  )
   from start (suc count) =
       let more = from (suc start) count in
       let are = subst (λ (end : ℕ). AreFrom (suc start) end more.0) (omega arith) more.1 in
       ⊎_elim
-      (λ (listed : Contains xs start). (start ∷ more.0, with-first start (start + suc count) more.0 listed are))
+      (λ (listed : Contains xs start). (
+        start ∷ more.0,
+        with-first start (start + suc count) more.0 listed are,
+      ))
       (λ (none : ¬ Contains xs start). (more.0, without-first start (start + suc count) more.0 none are))
       (decide-in xs start)
 
@@ -77,7 +97,8 @@ some_rising xs =
         rises = all.1.rises;
         same = λ y. (
           λ in_ys. (all.1.known y in_ys).1,
-          λ in_xs. all.1.whole y (omega arith) (omega (arith, get_or-le-sum_by (λ (x : ℕ). x) xs in_xs.0 y in_xs.1, in_xs.2)) in_xs,
+          λ in_xs. all.1.whole y (omega arith)
+              (omega (arith, get_or-le-sum_by (λ (x : ℕ). x) xs in_xs.0 y in_xs.1, in_xs.2)) in_xs,
         );
       },
     )

@@ -31,27 +31,34 @@ fault-first said NoMemory n tokens numbers is = tt
 fault-first said (Refused refusal) n tokens numbers is = rw is refl
 
 -- a line without a fault says what the numbers say that are kept of it
-pub kept-says : {A : Type 0} (said : ℕ → List ℕ → Result A CertRefusal) (n most : ℕ) (tokens : Option TokenFault) (kept numbers : List ℕ) → tokens ≡ None → (tokens ≡ None → kept ≡ take most numbers) → said n (take most numbers) ≡ said n numbers
+pub kept-says : {A : Type 0} (said : ℕ → List ℕ → Result A CertRefusal) (n most : ℕ)
+    (tokens : Option TokenFault) (kept numbers : List ℕ) → tokens ≡ None
+    → (tokens ≡ None → kept ≡ take most numbers) → said n (take most numbers) ≡ said n numbers
     → line_said said n tokens numbers ≡ said n kept
-kept-says said n most tokens kept numbers none taken same = ap (λ (t : Option TokenFault). line_said said n t numbers) none ∙ sym (ap (said n) (taken none) ∙ same)
+kept-says said n most tokens kept numbers none taken same =
+    ap (λ (t : Option TokenFault). line_said said n t numbers) none ∙ sym (ap (said n) (taken none) ∙ same)
 
 -- the first numbers tell as much as all
-pub number-first : (above : CertTextKind) (limit line fpgas : ℕ) (numbers : List ℕ) → number_said above limit line (take (fpgas + 5) numbers) ≡ number_said above limit line numbers
+pub number-first : (above : CertTextKind) (limit line fpgas : ℕ) (numbers : List ℕ)
+    → number_said above limit line (take (fpgas + 5) numbers) ≡ number_said above limit line numbers
 number-first above limit line fpgas numbers =
     let two : fpgas + 5 ≡ suc (suc (fpgas + 3)) = omega arith in
     ap (λ k. number_said above limit line (take k numbers)) two ∙ first numbers
   where
-    first : (ns : List ℕ) → number_said above limit line (take (suc (suc (fpgas + 3))) ns) ≡ number_said above limit line ns
+    first : (ns : List ℕ) → number_said above limit line (take (suc (suc (fpgas + 3))) ns)
+        ≡ number_said above limit line ns
     first [] = refl
     first (a ∷ []) = refl
     first (a ∷ b ∷ more) = refl
 
-pub header-first : (line fpgas : ℕ) (numbers : List ℕ) → header_said fpgas line (take (fpgas + 5) numbers) ≡ header_said fpgas line numbers
+pub header-first : (line fpgas : ℕ) (numbers : List ℕ) → header_said fpgas line (take (fpgas + 5) numbers)
+    ≡ header_said fpgas line numbers
 header-first line fpgas numbers =
     let five : fpgas + 5 ≡ suc (suc (suc (suc (suc fpgas)))) = omega arith in
     ap (λ k. header_said fpgas line (take k numbers)) five ∙ first numbers
   where
-    first : (ns : List ℕ) → header_said fpgas line (take (suc (suc (suc (suc (suc fpgas))))) ns) ≡ header_said fpgas line ns
+    first : (ns : List ℕ) → header_said fpgas line (take (suc (suc (suc (suc (suc fpgas))))) ns)
+        ≡ header_said fpgas line ns
     first [] = refl
     first (a ∷ []) = refl
     first (a ∷ b ∷ []) = refl
@@ -59,12 +66,17 @@ header-first line fpgas numbers =
     first (a ∷ b ∷ c ∷ d ∷ []) = refl
     first (a ∷ b ∷ c ∷ d ∷ e ∷ more) = refl
 
-pub potential-first : (line fpgas : ℕ) (numbers : List ℕ) → potential_said fpgas line (take (fpgas + 5) numbers) ≡ potential_said fpgas line numbers
-potential-first line fpgas numbers = ⊎_elim (λ above. long above) (λ short. ap (potential_said fpgas line) (take_all (fpgas + 5) numbers (omega (arith, short)))) (cases_lt (fpgas + 5) (length numbers))
+pub potential-first : (line fpgas : ℕ) (numbers : List ℕ)
+    → potential_said fpgas line (take (fpgas + 5) numbers) ≡ potential_said fpgas line numbers
+potential-first line fpgas numbers =
+    ⊎_elim (λ above. long above) (λ short. ap (potential_said fpgas line)
+    (take_all (fpgas + 5) numbers (omega (arith, short)))) (cases_lt (fpgas + 5) (length numbers))
   where
-    long : fpgas + 5 < length numbers → potential_said fpgas line (take (fpgas + 5) numbers) ≡ potential_said fpgas line numbers
+    long : fpgas + 5 < length numbers → potential_said fpgas line (take (fpgas + 5) numbers)
+        ≡ potential_said fpgas line numbers
     long above =
-        let cut : length (take (fpgas + 5) numbers) ≡ fpgas + 5 = length-take-le (fpgas + 5) numbers (omega (arith, above)) in
+        let cut : length (take (fpgas + 5) numbers) ≡ fpgas + 5 =
+        length-take-le (fpgas + 5) numbers (omega (arith, above)) in
         let few : length (take (fpgas + 5) numbers) ≢ fpgas = λ e. omega (arith, cut, e) in
         let many : length numbers ≢ fpgas = λ e. omega (arith, above, e) in
         rw (ne_eqb _ fpgas few, ne_eqb _ fpgas many) refl
@@ -79,56 +91,76 @@ with_lines more x = Ok (x, more)
 abbrev with_first : {A : Type 0} → A → List A × List Line → Result (List A × List Line) CertRefusal
 with_first x rest = Ok (x ∷ rest.0, rest.1)
 
-module _ (after : ℕ) {A : Type 0} (said : ℕ → List ℕ → Result A CertRefusal) (next : List A → List Line → Result Cert CertRefusal) where
+module _ (after : ℕ) {A : Type 0} (said : ℕ → List ℕ → Result A CertRefusal) (next : List A → List Line
+    → Result Cert CertRefusal) where
   -- no line is left
-  pub section-done : (left : ℕ) (front : List A) (lines : List Line) → left ≡ 0 → in_section after said next left front lines ≡ next front lines
-  section-done left front lines none = ap (λ k. in_section after said next k front lines) none ∙ ap (λ xs. next xs lines) (append-nil front)
+  pub section-done : (left : ℕ) (front : List A) (lines : List Line) → left ≡ 0
+      → in_section after said next left front lines ≡ next front lines
+  section-done left front lines none = ap (λ k. in_section after said next k front lines) none
+      ∙ ap (λ xs. next xs lines) (append-nil front)
 
   -- a line is missing
-  pub section-missing : (left : ℕ) (front : List A) → 0 < left → in_section after said next left front [] ≡ refused MissingLine after
+  pub section-missing : (left : ℕ) (front : List A) → 0 < left → in_section after said next left front []
+      ≡ refused MissingLine after
   section-missing left front some =
       let one : left ≡ suc (left - 1) = omega arith in
       ap (λ k. in_section after said next k front []) one
 
   -- one line more, and those behind it
   behind : (front : List A) (x : A) (rest : Result (List A × List Line) CertRefusal)
-      → (rest >>= with_first x >>= λ r. next (front ++ r.0) r.1) ≡ (rest >>= λ r. next ((front ++ x ∷ []) ++ r.0) r.1)
+      → (rest >>= with_first x >>= λ r. next (front ++ r.0) r.1)
+      ≡ (rest >>= λ r. next ((front ++ x ∷ []) ++ r.0) r.1)
   behind front x (Ok r) = ap (λ xs. next xs r.1) (sym (append_assoc front (x ∷ []) r.0))
   behind front x (Err refusal) = refl
 
   here : (left : ℕ) (front : List A) (more : List Line) (x : Result A CertRefusal)
-      → (x >>= with_lines more >>= (λ first. section_from after said left first.1 >>= with_first first.0) >>= λ r. next (front ++ r.0) r.1)
+      → (x >>= with_lines more >>= (λ first. section_from after said left first.1 >>= with_first first.0) >>=
+      λ r. next (front ++ r.0) r.1)
       ≡ (x >>= λ y. in_section after said next left (front ++ y ∷ []) more)
   here left front more (Ok x) = behind front x (section_from after said left more)
   here left front more (Err refusal) = refl
 
-  one-more : (left : ℕ) (front : List A) (n : ℕ) (fault : Option TokenFault) (numbers : List ℕ) (more : List Line)
-      → in_section after said next (suc left) front (ended_line n fault numbers ∷ more) ≡ (line_said said n fault numbers >>= λ x. in_section after said next left (front ++ x ∷ []) more)
+  one-more : (left : ℕ) (front : List A) (n : ℕ) (fault : Option TokenFault) (numbers : List ℕ)
+      (more : List Line)
+      → in_section after said next (suc left) front (ended_line n fault numbers ∷ more)
+      ≡ (line_said said n fault numbers >>= λ x. in_section after said next left (front ++ x ∷ []) more)
   one-more left front n None numbers more = here left front more (said n numbers)
   one-more left front n (Some f) numbers more = refl
 
-  pub section-line : (left : ℕ) (front : List A) (n : ℕ) (fault : Option TokenFault) (numbers : List ℕ) (more : List Line) → 0 < left
-      → in_section after said next left front (ended_line n fault numbers ∷ more) ≡ (line_said said n fault numbers >>= λ x. in_section after said next (left - 1) (front ++ x ∷ []) more)
+  pub section-line : (left : ℕ) (front : List A) (n : ℕ) (fault : Option TokenFault) (numbers : List ℕ)
+      (more : List Line) → 0 < left
+      → in_section after said next left front (ended_line n fault numbers ∷ more)
+      ≡ (line_said said n fault numbers >>= λ x. in_section after said next (left - 1)
+      (front ++ x ∷ []) more)
   section-line left front n fault numbers more some =
       let one : left ≡ suc (left - 1) = omega arith in
-      ap (λ k. in_section after said next k front (ended_line n fault numbers ∷ more)) one ∙ one-more (left - 1) front n fault numbers more
+      ap (λ k. in_section after said next k front (ended_line n fault numbers ∷ more)) one
+      ∙ one-more (left - 1) front n fault numbers more
 
   -- one line more that is refused, or says something
-  pub section-refused : (left : ℕ) (front : List A) (n : ℕ) (tokens : Option TokenFault) (numbers : List ℕ) (more : List Line) (fault : CertFault) → 0 < left → IsFaultOf fault (line_said said n tokens numbers)
+  pub section-refused : (left : ℕ) (front : List A) (n : ℕ) (tokens : Option TokenFault) (numbers : List ℕ)
+      (more : List Line) (fault : CertFault) → 0 < left → IsFaultOf fault (line_said said n tokens numbers)
       → IsFaultOf fault (in_section after said next left front (ended_line n tokens numbers ∷ more))
   section-refused left front n tokens numbers more NoMemory some is = tt
   section-refused left front n tokens numbers more (Refused refusal) some is =
-      section-line left front n tokens numbers more some ∙ ap (λ r. r >>= λ x. in_section after said next (left - 1) (front ++ x ∷ []) more) is
+      section-line left front n tokens numbers more some
+      ∙ ap (λ r. r >>= λ x. in_section after said next (left - 1) (front ++ x ∷ []) more) is
 
-  pub section-taken : (left : ℕ) (front front' : List A) (n : ℕ) (fault : Option TokenFault) (numbers : List ℕ) (more : List Line) (x : A) → 0 < left → line_said said n fault numbers ≡ Ok x → front' ≡ front ++ x ∷ []
-      → in_section after said next left front (ended_line n fault numbers ∷ more) ≡ in_section after said next (left - 1) front' more
+  pub section-taken : (left : ℕ) (front front' : List A) (n : ℕ) (fault : Option TokenFault)
+      (numbers : List ℕ) (more : List Line) (x : A) → 0 < left → line_said said n fault numbers ≡ Ok x
+      → front' ≡ front ++ x ∷ []
+      → in_section after said next left front (ended_line n fault numbers ∷ more)
+      ≡ in_section after said next (left - 1) front' more
   section-taken left front front' n fault numbers more x some is grown =
-      section-line left front n fault numbers more some ∙ ap (λ r. r >>= λ y. in_section after said next (left - 1) (front ++ y ∷ []) more) is
+      section-line left front n fault numbers more some
+      ∙ ap (λ r. r >>= λ y. in_section after said next (left - 1) (front ++ y ∷ []) more) is
       ∙ ap (λ xs. in_section after said next (left - 1) xs more) (sym grown)
 
 -- ---- the header and the whole text
 
-through : {A : Type 0} (next : A → List Line → Result Cert CertRefusal) (more : List Line) (x : Result A CertRefusal) → (x >>= with_lines more >>= λ first. next first.0 first.1) ≡ (x >>= λ y. next y more)
+through : {A : Type 0} (next : A → List Line → Result Cert CertRefusal) (more : List Line)
+    (x : Result A CertRefusal) → (x >>= with_lines more >>= λ first. next first.0 first.1)
+    ≡ (x >>= λ y. next y more)
 through next more (Ok x) = refl
 through next more (Err refusal) = refl
 
@@ -137,26 +169,34 @@ header-line : (after : ℕ) (sizes : Sizes) (n : ℕ) (fault : Option TokenFault
 header-line after sizes n None numbers more = through (past_header after sizes) more (header_said sizes.fpgas n numbers)
 header-line after sizes n (Some f) numbers more = refl
 
-pub header-refused : (after : ℕ) (sizes : Sizes) (n : ℕ) (tokens : Option TokenFault) (numbers : List ℕ) (more : List Line) (fault : CertFault) → IsFaultOf fault (line_said (header_said sizes.fpgas) n tokens numbers)
+pub header-refused : (after : ℕ) (sizes : Sizes) (n : ℕ) (tokens : Option TokenFault) (numbers : List ℕ)
+    (more : List Line) (fault : CertFault)
+    → IsFaultOf fault (line_said (header_said sizes.fpgas) n tokens numbers)
     → IsFaultOf fault (from_header after sizes (ended_line n tokens numbers ∷ more))
 header-refused after sizes n tokens numbers more NoMemory is = tt
 header-refused after sizes n tokens numbers more (Refused refusal) is =
-    header-line after sizes n tokens numbers more ∙ ap (λ (r : Result Header CertRefusal). r >>= λ header. past_header after sizes header more) is
+    header-line after sizes n tokens numbers more
+    ∙ ap (λ (r : Result Header CertRefusal). r >>= λ header. past_header after sizes header more) is
 
-pub header-taken : (after : ℕ) (sizes : Sizes) (n : ℕ) (fault : Option TokenFault) (numbers : List ℕ) (more : List Line) (header : Header) → line_said (header_said sizes.fpgas) n fault numbers ≡ Ok header
+pub header-taken : (after : ℕ) (sizes : Sizes) (n : ℕ) (fault : Option TokenFault) (numbers : List ℕ)
+    (more : List Line) (header : Header) → line_said (header_said sizes.fpgas) n fault numbers ≡ Ok header
     → from_header after sizes (ended_line n fault numbers ∷ more) ≡ past_header after sizes header more
 header-taken after sizes n fault numbers more header is =
-    header-line after sizes n fault numbers more ∙ ap (λ (r : Result Header CertRefusal). r >>= λ h. past_header after sizes h more) is
+    header-line after sizes n fault numbers more
+    ∙ ap (λ (r : Result Header CertRefusal). r >>= λ h. past_header after sizes h more) is
 
 -- a text that is not too long is read line by line
-pub whole-is : (board : Board) (text : List ℕ) → length text ≤ 2 ^ 30 → cert_of board text ≡ from_header (line_after text) (sizes_of board) (lines most_potential_value text)
+pub whole-is : (board : Board) (text : List ℕ) → length text ≤ 2 ^ 30
+    → cert_of board text ≡ from_header (line_after text) (sizes_of board) (lines most_potential_value text)
 whole-is board text short = rw (le-ltb (2 ^ 30) (length text) short) refl
 
 -- ---- what is kept
 
-module _ (kept : Firsts) (sizes : Sizes) (potentials : ℕ) (cert : Cert) (is : IsKept kept sizes potentials cert) where
+module _ (kept : Firsts) (sizes : Sizes) (potentials : ℕ) (cert : Cert)
+    (is : IsKept kept sizes potentials cert) where
   -- with one weight more
-  pub kept-weight : (weights : List ℕ) (w : ℕ) → w ≤ most_weight → weights ≡ cert.weights ++ w ∷ [] → IsKept kept sizes potentials (record cert { weights = weights })
+  pub kept-weight : (weights : List ℕ) (w : ℕ) → w ≤ most_weight → weights ≡ cert.weights ++ w ∷ []
+      → IsKept kept sizes potentials (record cert { weights = weights })
   kept-weight weights w le grown = record {
     most = is.most;
     largest = is.largest;
@@ -170,10 +210,13 @@ module _ (kept : Firsts) (sizes : Sizes) (potentials : ℕ) (cert : Cert) (is : 
   }
 
   -- with one length more
-  pub kept-length : (lengths : List ℕ) (l : ℕ) → cert.kind ≡ Share → l ≤ most_length → lengths ≡ cert.lengths ++ l ∷ [] → IsKept kept sizes potentials (record cert { lengths = lengths })
+  pub kept-length : (lengths : List ℕ) (l : ℕ) → cert.kind ≡ Share → l ≤ most_length
+      → lengths ≡ cert.lengths ++ l ∷ [] → IsKept kept sizes potentials (record cert { lengths = lengths })
   kept-length lengths l share le grown =
-      let before : All (λ n. n ≤ most_length) cert.lengths = subst (λ (k : CertKind). HasLengths k cert.lengths) share is.lengths in
-      let now : All (λ n. n ≤ most_length) lengths = rw grown (All-push (λ n. n ≤ most_length) cert.lengths l before le) in
+      let before : All (λ n. n ≤ most_length) cert.lengths =
+      subst (λ (k : CertKind). HasLengths k cert.lengths) share is.lengths in
+      let now : All (λ n. n ≤ most_length) lengths =
+      rw grown (All-push (λ n. n ≤ most_length) cert.lengths l before le) in
       record {
         most = is.most;
         largest = is.largest;
@@ -187,7 +230,9 @@ module _ (kept : Firsts) (sizes : Sizes) (potentials : ℕ) (cert : Cert) (is : 
       }
 
   -- with one potential more
-  pub kept-potential : (rows : List (List ℕ)) (row : List ℕ) → 0 < potentials → length row ≡ sizes.fpgas → All (λ v. v ≤ most_potential_value) row → rows ≡ cert.potentials ++ row ∷ [] → IsKept kept sizes potentials (record cert { potentials = rows })
+  pub kept-potential : (rows : List (List ℕ)) (row : List ℕ) → 0 < potentials → length row ≡ sizes.fpgas
+      → All (λ v. v ≤ most_potential_value) row → rows ≡ cert.potentials ++ row ∷ []
+      → IsKept kept sizes potentials (record cert { potentials = rows })
   kept-potential rows row there count within grown =
       let fpgas : 0 < sizes.fpgas = is.some there in
       let one : IsPotential row = record { some = omega (arith, fpgas, count); values = within } in
@@ -204,7 +249,8 @@ module _ (kept : Firsts) (sizes : Sizes) (potentials : ℕ) (cert : Cert) (is : 
       }
 
   -- with one choice more
-  pub kept-choice : (choices : List ℕ) (c : ℕ) → c ≤ potentials → choices ≡ cert.choices ++ c ∷ [] → IsKept kept sizes potentials (record cert { choices = choices })
+  pub kept-choice : (choices : List ℕ) (c : ℕ) → c ≤ potentials → choices ≡ cert.choices ++ c ∷ []
+      → IsKept kept sizes potentials (record cert { choices = choices })
   kept-choice choices c le grown = record {
     most = is.most;
     largest = is.largest;
@@ -218,4 +264,9 @@ module _ (kept : Firsts) (sizes : Sizes) (potentials : ℕ) (cert : Cert) (is : 
   }
 
 pub same-sizes : (a b : Sizes) → listed a ≡ listed b → a ≡ b
-same-sizes a b same = ap (λ (xs : List ℕ). record { fpgas = get_or xs 0 0; groups = get_or xs 1 0; wires = get_or xs 2 0; nets = get_or xs 3 0 }) same
+same-sizes a b same = ap (λ (xs : List ℕ). record {
+  fpgas = get_or xs 0 0;
+  groups = get_or xs 1 0;
+  wires = get_or xs 2 0;
+  nets = get_or xs 3 0;
+}) same

@@ -16,11 +16,13 @@ use Rattle.bound_cert.specs.Sources.{roots_of}
 use Rattle.bound_cert.specs.Makers.{IsChoiceAmong, ChooseSources}
 
 -- one entry more at the end of a list
-pub each_pushed : {A : Type 0} (P : ℕ → A → Type 0) (xs : List A) (x d : A) (n : ℕ) → length xs ≡ n → ((k : ℕ) → k < n → P k (get_or xs k d)) → P n x → (k : ℕ) → k < n + 1 → P k (get_or (xs ++ x ∷ []) k d)
+pub each_pushed : {A : Type 0} (P : ℕ → A → Type 0) (xs : List A) (x d : A) (n : ℕ) → length xs ≡ n
+    → ((k : ℕ) → k < n → P k (get_or xs k d)) → P n x → (k : ℕ) → k < n + 1 → P k (get_or (xs ++ x ∷ []) k d)
 each_pushed {A} P xs x d n long each last k below = go (cases_lt k n)
   where
     go : (k < n) ⊎ (n ≤ k) → P k (get_or (xs ++ x ∷ []) k d)
-    go (inl before) = subst (λ (y : A). P k y) (sym (get_or_append_left xs (x ∷ []) d k (omega arith))) (each k before)
+    go (inl before) = subst (λ (y : A). P k y) (sym (get_or_append_left xs (x ∷ []) d k (omega arith)))
+        (each k before)
     go (inr past) =
         let at : k ≡ n = omega arith in
         let there : get_or (xs ++ x ∷ []) k d ≡ x = get_or_push xs x d k (omega arith) in
@@ -30,7 +32,8 @@ each_pushed {A} P xs x d n long each last k below = go (cases_lt k n)
 eqb_turned : (a b : ℕ) → eqb a b ≡ eqb b a
 eqb_turned a b = go (eqb_tells a b) (eqb_tells b a)
   where
-    go : ((eqb a b ≡ true) × (a ≡ b)) ⊎ ((eqb a b ≡ false) × (a ≡ b → ⊥)) → ((eqb b a ≡ true) × (b ≡ a)) ⊎ ((eqb b a ≡ false) × (b ≡ a → ⊥)) → eqb a b ≡ eqb b a
+    go : ((eqb a b ≡ true) × (a ≡ b)) ⊎ ((eqb a b ≡ false) × (a ≡ b → ⊥)) → ((eqb b a ≡ true) × (b ≡ a))
+        ⊎ ((eqb b a ≡ false) × (b ≡ a → ⊥)) → eqb a b ≡ eqb b a
     go (inl h) (inl k) = h.0 ∙ sym k.0
     go (inl h) (inr k) = absurd (k.1 (sym h.1))
     go (inr h) (inl k) = absurd (h.1 (sym k.1))
@@ -39,7 +42,8 @@ eqb_turned a b = go (eqb_tells a b) (eqb_tells b a)
 any_turned : (x : ℕ) (keys : List ℕ) → list_any (eqb x) keys ≡ list_any (λ y. y == x) keys
 any_turned x [] = refl
 any_turned x (y ∷ keys) =
-    ap (λ (b : Bool). b || list_any (eqb x) keys) (eqb_turned x y) ∙ ap (λ (b : Bool). (y == x) || b) (any_turned x keys)
+    ap (λ (b : Bool). b || list_any (eqb x) keys) (eqb_turned x y)
+    ∙ ap (λ (b : Bool). (y == x) || b) (any_turned x keys)
 
 -- a key is put into a set as a number is met
 inserted_met : (keys : List ℕ) (x : ℕ) → insert_key eqb keys x ≡ with_met keys x
@@ -66,7 +70,8 @@ pub record IsRooting (board : Board) (n : ℕ) (keys choices : List ℕ) : Type 
   pub few : length keys ≤ n
   pub each : (k : ℕ) → k < n → IsChoiceAmong keys (source_of board k) (slice_index choices k)
 
-pub IsRooting-none : (board : Board) (keys choices : List ℕ) → keys ≡ [] → choices ≡ [] → IsRooting board 0 keys choices
+pub IsRooting-none : (board : Board) (keys choices : List ℕ) → keys ≡ [] → choices ≡ []
+    → IsRooting board 0 keys choices
 IsRooting-none board keys choices no_keys no_choices = record {
   keys_are = no_keys;
   count = ap length no_choices;
@@ -75,7 +80,8 @@ IsRooting-none board keys choices no_keys no_choices = record {
 }
 
 -- what a net met before chooses among more keys
-chosen_among_more : (keys keys' : List ℕ) → AreKept keys keys' → (source choice : ℕ) → IsChoiceAmong keys source choice → IsChoiceAmong keys' source choice
+chosen_among_more : (keys keys' : List ℕ) → AreKept keys keys' → (source choice : ℕ)
+    → IsChoiceAmong keys source choice → IsChoiceAmong keys' source choice
 chosen_among_more keys keys' kept source choice chosen = record {
   root = chosen.root;
   there = omega (arith, chosen.there, kept.more);
@@ -83,43 +89,57 @@ chosen_among_more keys keys' kept source choice chosen = record {
   source_is = kept.kept chosen.root chosen.there ∙ chosen.source_is;
 }
 
-pub IsRooting-more : (board : Board) (n x place : ℕ) (keys keys' choices : List ℕ) → IsRooting board n keys choices → n < length board.nets → x ≡ source_of board n → keys' ≡ insert_key eqb keys x → place < length keys' → slice_index keys' place ≡ x → IsRooting board (n + 1) keys' (choices ++ (place + 1) ∷ [])
+pub IsRooting-more : (board : Board) (n x place : ℕ) (keys keys' choices : List ℕ)
+    → IsRooting board n keys choices → n < length board.nets → x ≡ source_of board n
+    → keys' ≡ insert_key eqb keys x → place < length keys' → slice_index keys' place ≡ x
+    → IsRooting board (n + 1) keys' (choices ++ (place + 1) ∷ [])
 IsRooting-more board n x place keys keys' choices so_far there source inserted within found =
     let row : List ℕ = map (λ net. slice_index net 0) board.nets in
     let met : keys' ≡ with_met keys x = inserted ∙ inserted_met keys x in
-    let kept : AreKept keys keys' = subst (λ (ks : List ℕ). AreKept keys ks) (sym met) (kept_met keys x (list_any (λ y. y == x) keys)) in
-    let next : get_or row n 0 ≡ x = get_or-map (λ (net : List ℕ). slice_index net 0) board.nets n [] 0 there ∙ sym source in
-    let row_long : n < length row = omega (arith, there, length-map board.nets (λ (net : List ℕ). slice_index net 0)) in
+    let kept : AreKept keys keys' = subst (λ (ks : List ℕ). AreKept keys ks) (sym met)
+    (kept_met keys x (list_any (λ y. y == x) keys)) in
+    let next : get_or row n 0 ≡ x = get_or-map (λ (net : List ℕ). slice_index net 0) board.nets n [] 0 there
+    ∙ sym source in
+    let row_long : n < length row =
+    omega (arith, there, length-map board.nets (λ (net : List ℕ). slice_index net 0)) in
     let all : without_repeats (take (n + 1) row) ≡ with_met (without_repeats (take n row)) x =
-    without_repeats-take_more row n 0 row_long ∙ ap (λ (y : ℕ). with_met (without_repeats (take n row)) y) next in
+    without_repeats-take_more row n 0 row_long
+    ∙ ap (λ (y : ℕ). with_met (without_repeats (take n row)) y) next in
     record {
       keys_are = met ∙ ap (λ (ks : List ℕ). with_met ks x) so_far.keys_are ∙ sym all;
       count = omega (arith, length_push choices (place + 1), so_far.count);
       few = omega (arith, kept.few, so_far.few);
-      each = each_pushed (λ k choice. IsChoiceAmong keys' (source_of board k) choice) choices (place + 1) 0 n so_far.count
-          (λ k below. chosen_among_more keys keys' kept (source_of board k) (slice_index choices k) (so_far.each k below))
+      each = each_pushed (λ k choice. IsChoiceAmong keys' (source_of board k) choice) choices
+          (place + 1) 0 n so_far.count
+          (λ k below. chosen_among_more keys keys' kept (source_of board k) (slice_index choices k)
+          (so_far.each k below))
           (record { root = place; there = within; choice_is = refl; source_is = found ∙ source });
     }
 
 -- after all nets
-pub IsRooting-done : (board : Board) (n : ℕ) (keys choices : List ℕ) → IsRooting board n keys choices → length board.nets ≡ n → (keys ≡ roots_of board) × ChooseSources board choices
+pub IsRooting-done : (board : Board) (n : ℕ) (keys choices : List ℕ) → IsRooting board n keys choices
+    → length board.nets ≡ n → (keys ≡ roots_of board) × ChooseSources board choices
 IsRooting-done board n keys choices so_far all =
     let row : List ℕ = map (λ net. slice_index net 0) board.nets in
-    let whole : take n row ≡ row = take_all n row (omega (arith, all, length-map board.nets (λ (net : List ℕ). slice_index net 0))) in
+    let whole : take n row ≡ row =
+    take_all n row (omega (arith, all, length-map board.nets (λ (net : List ℕ). slice_index net 0))) in
     let keys_all : keys ≡ roots_of board = so_far.keys_are ∙ ap without_repeats whole in (
       keys_all,
       record {
         count = so_far.count ∙ sym all;
         each = λ k below.
-            subst (λ (ks : List ℕ). IsChoiceAmong ks (source_of board k) (slice_index choices k)) keys_all (so_far.each k (omega (arith, below, all)));
+            subst (λ (ks : List ℕ). IsChoiceAmong ks (source_of board k) (slice_index choices k)) keys_all
+            (so_far.each k (omega (arith, below, all)));
       },
     )
 
 -- a place among the keys is no greater than the number of nets before
-pub place_small : (keys keys' : List ℕ) (x place n : ℕ) → keys' ≡ insert_key eqb keys x → place < length keys' → length keys ≤ n → place ≤ n
+pub place_small : (keys keys' : List ℕ) (x place n : ℕ) → keys' ≡ insert_key eqb keys x → place < length keys'
+    → length keys ≤ n → place ≤ n
 place_small keys keys' x place n inserted within few =
     let met : keys' ≡ with_met keys x = inserted ∙ inserted_met keys x in
-    let kept : AreKept keys keys' = subst (λ (ks : List ℕ). AreKept keys ks) (sym met) (kept_met keys x (list_any (λ y. y == x) keys)) in
+    let kept : AreKept keys keys' = subst (λ (ks : List ℕ). AreKept keys ks) (sym met)
+    (kept_met keys x (list_any (λ y. y == x) keys)) in
     omega (arith, kept.few)
 
 -- the roots are FPGAs of the board, and no more than there are
@@ -127,8 +147,10 @@ pub roots_below : (board : Board) → IsBoard board → All (λ root. root < boa
 roots_below board is =
     All-without_repeats (λ root. root < board.fpgas) (map (λ net. slice_index net 0) board.nets)
     (All-map (λ root. root < board.fpgas) (λ (net : List ℕ). slice_index net 0) board.nets
-    (All-weaker (IsRowBelow board.fpgas) (λ net. slice_index net 0 < board.fpgas) (λ net row. row.below 0 0 row.some) board.nets is.nets))
+    (All-weaker (IsRowBelow board.fpgas) (λ net. slice_index net 0 < board.fpgas)
+    (λ net row. row.below 0 0 row.some) board.nets is.nets))
 
 pub roots_few : (board : Board) → IsBoard board → length (roots_of board) ≤ board.fpgas
 roots_few board is =
-    length_of_distinct (roots_of board) board.fpgas (AllPairs-without_repeats (map (λ net. slice_index net 0) board.nets)) (roots_below board is)
+    length_of_distinct (roots_of board) board.fpgas
+    (AllPairs-without_repeats (map (λ net. slice_index net 0) board.nets)) (roots_below board is)

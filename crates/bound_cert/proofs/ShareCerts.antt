@@ -33,33 +33,45 @@ sum-same f zero x = omega arith
 sum-same f (suc n) x = omega (arith, sum_by-cons f x (replicate n x), sum-same f n x)
 
 -- what is summed is the depths by the roots of the weights
-pub rooted_depths_are : (board : Board) (holders depths : List ℕ) → AreDepths board depths → ((n : ℕ) → n < length board.nets → slice_index holders n ≡ holders_of board n) → sum_below (length depths) (rooted holders depths) ≡ rooted_depths board depths
+pub rooted_depths_are : (board : Board) (holders depths : List ℕ) → AreDepths board depths
+    → ((n : ℕ) → n < length board.nets → slice_index holders n ≡ holders_of board n)
+    → sum_below (length depths) (rooted holders depths) ≡ rooted_depths board depths
 rooted_depths_are board holders depths are held =
     ap (λ (n : ℕ). sum_below n (rooted holders depths)) are.count
-    ∙ sum_below-agree (length board.nets) (rooted holders depths) (λ n. uniform_root board n * depth_of depths n)
+    ∙ sum_below-agree (length board.nets) (rooted holders depths)
+    (λ n. uniform_root board n * depth_of depths n)
     (λ n there. ap (λ (h : ℕ). root_of (uniform_weight * h) * depth_of depths n) (held n there))
 
-module _ (board : Board) (depths : List ℕ) (cert : Cert) (is : IsBoard board) (are_depths : AreDepths board depths) (has : HasRootPotentials board cert) (weights : cert.weights ≡ replicate (length board.groups) uniform_weight) (lengths : cert.lengths ≡ replicate (length board.wires) (uniform_length board depths)) where
+module _ (board : Board) (depths : List ℕ) (cert : Cert) (is : IsBoard board)
+    (are_depths : AreDepths board depths) (has : HasRootPotentials board cert) (weights : cert.weights
+    ≡ replicate (length board.groups) uniform_weight) (lengths : cert.lengths
+    ≡ replicate (length board.wires) (uniform_length board depths)) where
   even : (e : ℕ) → e < length board.wires → length_of cert e ≡ uniform_length board depths
-  even e there = ap (λ (ls : List ℕ). get_or ls e 0) lengths ∙ get_or-replicate (length board.wires) e (uniform_length board depths) 0 there
+  even e there = ap (λ (ls : List ℕ). get_or ls e 0) lengths
+      ∙ get_or-replicate (length board.wires) e (uniform_length board depths) 0 there
 
   root_is : (n : ℕ) → root_of_net board cert n ≡ uniform_root board n
-  root_is n = ap root_of (ap (λ (ws : List ℕ). net_weight board.groups ws n) weights ∙ net_weight-uniform board.groups uniform_weight n)
+  root_is n = ap root_of (ap (λ (ws : List ℕ). net_weight board.groups ws n) weights
+      ∙ net_weight-uniform board.groups uniform_weight n)
 
   -- the spreads by the roots are the rooted depths, times the length
   root_spreads_are : root_spreads board cert ≡ uniform_length board depths * rooted_depths board depths
   root_spreads_are =
-      sum_below-agree (length board.nets) (λ n. root_of_net board cert n * net_spread board cert n) (λ n. uniform_length board depths * (uniform_root board n * depth_of depths n))
+      sum_below-agree (length board.nets) (λ n. root_of_net board cert n * net_spread board cert n)
+      (λ n. uniform_length board depths * (uniform_root board n * depth_of depths n))
       (λ n there.
       ap (λ (root : ℕ). root * net_spread board cert n) (root_is n)
-      ∙ ap (λ (spread : ℕ). uniform_root board n * spread) (net_spread_is board cert depths (uniform_length board depths) is even has are_depths n there)
+      ∙ ap (λ (spread : ℕ). uniform_root board n * spread)
+      (net_spread_is board cert depths (uniform_length board depths) is even has are_depths n there)
       ∙ moved (uniform_root board n) (uniform_length board depths) (depth_of depths n))
-      ∙ sum_below-times (length board.nets) (uniform_length board depths) (λ n. uniform_root board n * depth_of depths n)
+      ∙ sum_below-times (length board.nets) (uniform_length board depths)
+      (λ n. uniform_root board n * depth_of depths n)
     where
       moved : (r l h : ℕ) → r * (l * h) ≡ l * (r * h)
       moved r l h = omega arith
 
-  squares_are : sum_by (λ l. l * l) cert.lengths ≡ length board.wires * (uniform_length board depths * uniform_length board depths)
+  squares_are : sum_by (λ l. l * l) cert.lengths
+      ≡ length board.wires * (uniform_length board depths * uniform_length board depths)
   squares_are =
       ap (λ (ls : List ℕ). sum_by (λ l. l * l) ls) lengths
       ∙ sum-same (λ (l : ℕ). l * l) (length board.wires) (uniform_length board depths)
@@ -71,13 +83,19 @@ module _ (board : Board) (depths : List ℕ) (cert : Cert) (is : IsBoard board) 
   bound_is_share_floor kind =
       let long : ℕ = uniform_length board depths in
       let total : ℕ = rooted_depths board depths in
-      let demand : 2 * root_spreads board cert - sum_by (λ l. l * l) cert.lengths ≡ 2 * long * total - length board.wires * (long * long) = omega (arith, root_spreads_are, squares_are) in
+      let demand : 2 * root_spreads board cert - sum_by (λ l. l * l) cert.lengths
+      ≡ 2 * long * total - length board.wires * (long * long) = omega (
+        arith,
+        root_spreads_are,
+        squares_are,
+      ) in
       ap (λ (k : CertKind). least_even (demand_of_kind k board cert) (divisor_of_kind k cert.weights)) kind
       ∙ ap (λ (d : ℕ). least_even d (sum cert.weights)) demand
       ∙ ap (least_even (2 * long * total - length board.wires * (long * long))) weights_are
 
 -- the parts of the certificate, with what is known of them
-pub record AreShareParts (board : Board) (unit : ℕ) (depths weights lengths choices : List ℕ) (hops potentials : List (List ℕ)) : Type 0 where
+pub record AreShareParts (board : Board) (unit : ℕ) (depths weights lengths choices : List ℕ)
+    (hops potentials : List (List ℕ)) : Type 0 where
   pub is_board : IsBoard board
   pub unit_is : unit ≡ uniform_length board depths
   pub unit_short : unit ≤ 2 ^ 40
@@ -98,10 +116,14 @@ pub record IsShareMade (board : Board) (cert : Cert) : Type 0 where
   pub floor : IsShareFloor board (bound_of board cert)
   pub few : sum_by length cert.potentials ≤ most_potential_values
 
-module _ (board : Board) (unit : ℕ) (depths weights lengths choices : List ℕ) (hops potentials : List (List ℕ)) (parts : AreShareParts board unit depths weights lengths choices hops potentials) where
+module _ (board : Board) (unit : ℕ) (depths weights lengths choices : List ℕ)
+    (hops potentials : List (List ℕ)) (parts : AreShareParts board unit depths weights lengths choices hops
+    potentials) where
   -- the length of each wire, by any function that is so on the wires
-  are_scaled : (wire_length : ℕ → ℕ) → ((e : ℕ) → e < length board.wires → wire_length e ≡ unit) → AreRootPotentials board wire_length potentials
-  are_scaled wire_length at_unit = AreRootPotentials-scaled board wire_length unit hops potentials at_unit parts.from_hops parts.scaled
+  are_scaled : (wire_length : ℕ → ℕ) → ((e : ℕ) → e < length board.wires → wire_length e ≡ unit)
+      → AreRootPotentials board wire_length potentials
+  are_scaled wire_length at_unit = AreRootPotentials-scaled board wire_length unit hops potentials at_unit
+      parts.from_hops parts.scaled
 
   pub share_lengths_within : All (λ l. l ≤ most_length) lengths
   share_lengths_within =
@@ -110,25 +132,49 @@ module _ (board : Board) (unit : ℕ) (depths weights lengths choices : List ℕ
 
   pub share_potentials_within : All IsPotential potentials
   share_potentials_within =
-      potentials_within board (λ _. unit) potentials (are_scaled (λ _. unit) (λ e there. refl)) parts.is_board (unit * most_fpgas)
-      (omega (arith, parts.unit_short)) (AreScaled-small unit most_fpgas hops potentials parts.scaled parts.small)
+      potentials_within board (λ _. unit) potentials (are_scaled (λ _. unit) (λ e there. refl)) parts.is_board
+      (unit * most_fpgas)
+      (omega (arith, parts.unit_short)) (AreScaled-small unit most_fpgas hops potentials parts.scaled
+      parts.small)
 
   pub share_choices_there : All (λ c. c ≤ length potentials) choices
-  share_choices_there = choices_there board (λ _. unit) potentials (are_scaled (λ _. unit) (λ e there. refl)) choices parts.chosen
+  share_choices_there = choices_there board (λ _. unit) potentials (are_scaled (λ _. unit) (λ e there. refl))
+      choices parts.chosen
 
-  pub IsShareMade-from_parts : IsShareMade board (record { kind = Share; grows = false; weights = weights; lengths = lengths; potentials = potentials; choices = choices })
+  pub IsShareMade-from_parts : IsShareMade board (record {
+    kind = Share;
+    grows = false;
+    weights = weights;
+    lengths = lengths;
+    potentials = potentials;
+    choices = choices;
+  })
   IsShareMade-from_parts =
-      let cert : Cert = record { kind = Share; grows = false; weights = weights; lengths = lengths; potentials = potentials; choices = choices } in
-      let long : lengths ≡ replicate (length board.wires) (uniform_length board depths) = parts.lengths_are ∙ ap (replicate (length board.wires)) parts.unit_is in
-      let at_unit : (e : ℕ) → e < length board.wires → length_of cert e ≡ unit = λ e there. ap (λ (ls : List ℕ). get_or ls e 0) parts.lengths_are ∙ get_or-replicate (length board.wires) e unit 0 there in
-      let has : HasRootPotentials board cert = record { potentials = are_scaled (length_of cert) at_unit; choices = parts.chosen } in
+      let cert : Cert = record {
+        kind = Share;
+        grows = false;
+        weights = weights;
+        lengths = lengths;
+        potentials = potentials;
+        choices = choices;
+      } in
+      let long : lengths ≡ replicate (length board.wires) (uniform_length board depths) = parts.lengths_are
+      ∙ ap (replicate (length board.wires)) parts.unit_is in
+      let at_unit : (e : ℕ) → e < length board.wires → length_of cert e ≡ unit =
+      λ e there. ap (λ (ls : List ℕ). get_or ls e 0) parts.lengths_are
+      ∙ get_or-replicate (length board.wires) e unit 0 there in
+      let has : HasRootPotentials board cert = record {
+        potentials = are_scaled (length_of cert) at_unit;
+        choices = parts.chosen;
+      } in
       record {
         made = record {
           depths = depths;
           are_depths = parts.are_depths;
           kind = refl;
           chosen = refl;
-          weights = λ g there. ap (λ (ws : List ℕ). get_or ws g 0) parts.weights_are ∙ get_or-replicate (length board.groups) g uniform_weight 0 there;
+          weights = λ g there. ap (λ (ws : List ℕ). get_or ws g 0) parts.weights_are
+              ∙ get_or-replicate (length board.groups) g uniform_weight 0 there;
           lengths = λ e there. at_unit e there ∙ parts.unit_is;
           potentials = has;
         };
@@ -142,7 +188,9 @@ module _ (board : Board) (unit : ℕ) (depths weights lengths choices : List ℕ
         floor = record {
           depths = depths;
           are_depths = parts.are_depths;
-          floor_is = bound_is_share_floor board depths cert parts.is_board parts.are_depths has parts.weights_are long refl;
+          floor_is = bound_is_share_floor board depths cert parts.is_board parts.are_depths has
+              parts.weights_are long refl;
         };
-        few = few_values board (length_of cert) potentials has.potentials parts.is_board (omega (arith, parts.scaled.count, parts.few));
+        few = few_values board (length_of cert) potentials has.potentials parts.is_board
+            (omega (arith, parts.scaled.count, parts.few));
       }

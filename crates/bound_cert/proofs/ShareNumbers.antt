@@ -7,7 +7,8 @@ use Rattle.bound_cert.specs.Limits.{uniform_weight}
 use Rattle.bound_cert.specs.Floors.{part_of}
 
 -- the root of a net's weight is at most 2^20
-pub root_small : (root holders : ℕ) → root * root ≤ uniform_weight * holders → holders ≤ uniform_weight → root ≤ uniform_weight
+pub root_small : (root holders : ℕ) → root * root ≤ uniform_weight * holders → holders ≤ uniform_weight
+    → root ≤ uniform_weight
 root_small root holders square few = go (cases_lt uniform_weight root)
   where
     go : (uniform_weight < root) ⊎ (root ≤ uniform_weight) → root ≤ uniform_weight
@@ -32,5 +33,9 @@ part_within whole parts most some limit = go (cases_lt most (whole / parts))
     go : (most < whole / parts) ⊎ (whole / parts ≤ most) → whole / parts ≤ most
     go (inl more) =
         let more' : most + 1 ≤ whole / parts = omega arith in
-        absurd (some (omega (arith, div-mul-le_self whole parts, mul-le (most + 1) parts (whole / parts) parts more' (omega arith))))
+        absurd (some (omega (
+          arith,
+          div-mul-le_self whole parts,
+          mul-le (most + 1) parts (whole / parts) parts more' (omega arith),
+        )))
     go (inr fine) = fine

@@ -47,7 +47,8 @@ root_sum board cert spreads = sum_below (length board.nets) (λ n. root_of_net b
 abbrev pub weight_sum : Board → Cert → (spreads : ℕ → ℕ) → ℕ
 weight_sum board cert spreads = sum_below (length board.nets) (λ n. weight_of_net board cert n * spreads n)
 
--- what a bound times the divisor must reach where nets are spread so, 0 where that is negative, by a certificate of this
+-- what a bound times the divisor must reach where nets are spread so, 0 where that is negative, by a
+-- certificate of this
 -- kind
 abbrev pub demand_by : CertKind → Board → Cert → (spreads : ℕ → ℕ) → ℕ
 demand_by Share board cert spreads = 2 * root_sum board cert spreads - sum_by (λ l. l * l) cert.lengths
@@ -69,7 +70,8 @@ demand_of_kind kind board cert = demand_by kind board cert (net_spread board cer
 abbrev pub demand_of : Board → Cert → ℕ
 demand_of board cert = demand_of_kind cert.kind board cert
 
--- what the bound is multiplied by, by a certificate of this kind: the sum of all weights, by hops times the unit
+-- what the bound is multiplied by, by a certificate of this kind: the sum of all weights, by hops times the
+-- unit
 abbrev pub divisor_of_kind : CertKind → (weights : List ℕ) → ℕ
 divisor_of_kind Share weights = sum weights
 divisor_of_kind (Hop unit) weights = unit * sum weights

@@ -28,7 +28,8 @@ kind_said line kind unit =
 
 -- whether the spread of a net is its growth: in version 4, and not in version 1
 abbrev pub grows_said : (line version : ℕ) → Result Bool CertRefusal
-grows_said line version = if version == 1 then Ok false else (if version == 4 then Ok true else refused BadVersion line)
+grows_said line version =
+    if version == 1 then Ok false else (if version == 4 then Ok true else refused BadVersion line)
 
 -- how many potentials there are: none where nets grow, and where they would have no value
 abbrev pub count_said : (grows : Bool) → (fpgas line count : ℕ) → Result ℕ CertRefusal

@@ -40,7 +40,8 @@ header_row cert =
 abbrev pub number_line : ℕ → List ℕ
 number_line n = line_text (n ∷ [])
 
--- a line for the header, for each weight, for each listed length, for each potential and for each listed choice
+-- a line for the header, for each weight, for each listed length, for each potential and for each listed
+-- choice
 abbrev pub cert_text : Cert → List ℕ
 cert_text cert =
     line_text (header_row cert)

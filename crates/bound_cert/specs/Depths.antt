@@ -8,7 +8,8 @@ use Rattle.tdm_problem.specs.Legal.{terminals_of, source_of}
 pub record IsDepthOver (board : Board) (wire_length : ℕ → ℕ) (n depth : ℕ) : Type 0 where
   pub within : (f : ℕ) → Contains (terminals_of board n) f
       → (far : ℕ) × IsDistance board wire_length (source_of board n) f far × (far ≤ depth)
-  pub reached : (f : ℕ) × Contains (terminals_of board n) f × IsDistance board wire_length (source_of board n) f depth
+  pub reached : (f : ℕ) × Contains (terminals_of board n) f
+      × IsDistance board wire_length (source_of board n) f depth
 
 -- the same by hops
 abbrev pub IsDepth : Board → (n depth : ℕ) → Type 0

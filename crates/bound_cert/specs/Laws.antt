@@ -1,4 +1,5 @@
--- Laws on certificates: what joins FPGAs is as long as a potential is spread, and the bound is below every legal value.
+-- Laws on certificates: what joins FPGAs is as long as a potential is spread, and the bound is below every
+-- legal value.
 use Rattle.std.specs.Prelude.{◌≡◌, ℕ, false, ◌+◌, ◌*◌, ◌<◌, ◌≤◌, List, sum_by, Contains}
 use Rattle.tdm_problem.specs.Board.{Board, IsBoard}
 use Rattle.tdm_problem.specs.Routing.{Routing}
@@ -26,7 +27,8 @@ pub record IsLeastEven (demand divisor number : ℕ) : Type 0 where
   pub enough : demand ≤ divisor * number
   pub least : (half : ℕ) → demand ≤ divisor * (2 * half) → number ≤ 2 * half
 
--- where there is something to multiply by, the least even number that reaches the demand is what its name says
+-- where there is something to multiply by, the least even number that reaches the demand is what its name
+-- says
 abbrev pub LeastEvenLaw : Type 0
 LeastEvenLaw = (demand divisor : ℕ) → 0 < divisor → IsLeastEven demand divisor (least_even demand divisor)
 

@@ -18,12 +18,14 @@ IsRootValue board wire_length root f value = IsDistance board wire_length root f
     ⊎ (HasNoWalk board root f × (value ≡ 0))
 
 -- each FPGA's value is its distance from the root, or 0 where no wires lead there
-pub record IsRootPotential (board : Board) (wire_length : ℕ → ℕ) (root : ℕ) (potential : List ℕ) : Type 0 where
+pub record IsRootPotential (board : Board) (wire_length : ℕ
+    → ℕ) (root : ℕ) (potential : List ℕ) : Type 0 where
   pub count : length potential ≡ board.fpgas
   pub values : (f : ℕ) → f < board.fpgas → IsRootValue board wire_length root f (value_at potential f)
 
 -- there is a potential for each of these FPGAs, in order
-pub record ArePotentialsFrom (board : Board) (wire_length : ℕ → ℕ) (roots : List ℕ) (potentials : List (List ℕ)) : Type 0 where
+pub record ArePotentialsFrom (board : Board) (wire_length : ℕ → ℕ) (roots : List ℕ)
+    (potentials : List (List ℕ)) : Type 0 where
   pub count : length potentials ≡ length roots
   pub each : (p : ℕ) → p < length roots
       → IsRootPotential board wire_length (slice_index roots p) (slice_index_or potentials p [])
@@ -46,7 +48,8 @@ pub record ChooseSources (board : Board) (choices : List ℕ) : Type 0 where
   pub each : (n : ℕ) → n < length board.nets
       → IsChoiceAmong (roots_of board) (source_of board n) (slice_index choices n)
 
--- the potentials are those of the roots, at the certificate's lengths, and each net chooses that of its source
+-- the potentials are those of the roots, at the certificate's lengths, and each net chooses that of its
+-- source
 pub record HasRootPotentials (board : Board) (cert : Cert) : Type 0 where
   pub potentials : AreRootPotentials board (length_of cert) cert.potentials
   pub choices : ChooseSources board cert.choices

@@ -25,7 +25,8 @@ line_said said n fault numbers = said_of_line of_token said n fault numbers
 
 module _ (after : ℕ) where
   -- so many lines of a section whose earlier lines said these things, and then the lines behind it
-  abbrev pub in_section : {A : Type 0} → (ℕ → List ℕ → Result A CertRefusal) → (List A → List Line → Result Cert CertRefusal)
+  abbrev pub in_section : {A : Type 0} → (ℕ → List ℕ → Result A CertRefusal)
+      → (List A → List Line → Result Cert CertRefusal)
       → ℕ → List A → List Line → Result Cert CertRefusal
   in_section said next left front lines = do
     rest ← section_from after said left lines
@@ -34,7 +35,8 @@ module _ (after : ℕ) where
   -- from a choice on
   abbrev pub in_choices : Sizes → ℕ → Cert → ℕ → List Line → Result Cert CertRefusal
   in_choices sizes potentials cert left lines =
-      in_section (number_said UnknownPotential potentials) (λ choices. unless_more (record cert { choices = choices })) left cert.choices lines
+      in_section (number_said UnknownPotential potentials)
+      (λ choices. unless_more (record cert { choices = choices })) left cert.choices lines
 
   -- behind the potentials
   abbrev pub past_potentials : Sizes → ℕ → Cert → List Line → Result Cert CertRefusal
@@ -45,12 +47,14 @@ module _ (after : ℕ) where
   -- from a potential on
   abbrev pub in_potentials : Sizes → ℕ → Cert → ℕ → List Line → Result Cert CertRefusal
   in_potentials sizes potentials cert left lines =
-      in_section (potential_said sizes.fpgas) (λ rows. past_potentials sizes potentials (record cert { potentials = rows })) left cert.potentials lines
+      in_section (potential_said sizes.fpgas) (λ rows. past_potentials sizes potentials
+      (record cert { potentials = rows })) left cert.potentials lines
 
   -- from a length on
   abbrev pub in_lengths : Sizes → ℕ → Cert → ℕ → List Line → Result Cert CertRefusal
   in_lengths sizes potentials cert left lines =
-      in_section (number_said LengthLimit most_length) (λ lengths. in_potentials sizes potentials (record cert { lengths = lengths }) potentials) left cert.lengths lines
+      in_section (number_said LengthLimit most_length) (λ lengths. in_potentials sizes potentials
+      (record cert { lengths = lengths }) potentials) left cert.lengths lines
 
   -- behind the weights
   abbrev pub past_weights : Sizes → ℕ → Cert → List Line → Result Cert CertRefusal
@@ -61,12 +65,20 @@ module _ (after : ℕ) where
   -- from a weight on
   abbrev pub in_weights : Sizes → ℕ → Cert → ℕ → List Line → Result Cert CertRefusal
   in_weights sizes potentials cert left lines =
-      in_section (number_said WeightLimit most_weight) (λ weights. past_weights sizes potentials (record cert { weights = weights })) left cert.weights lines
+      in_section (number_said WeightLimit most_weight) (λ weights. past_weights sizes potentials
+      (record cert { weights = weights })) left cert.weights lines
 
   -- behind a header
   abbrev pub past_header : Sizes → Header → List Line → Result Cert CertRefusal
   past_header sizes header lines =
-      in_weights sizes header.potentials (record { kind = header.kind; grows = header.grows; weights = []; lengths = []; potentials = []; choices = [] }) sizes.groups lines
+      in_weights sizes header.potentials (record {
+        kind = header.kind;
+        grows = header.grows;
+        weights = [];
+        lengths = [];
+        potentials = [];
+        choices = [];
+      }) sizes.groups lines
 
   -- the whole text
   abbrev pub from_header : Sizes → List Line → Result Cert CertRefusal
@@ -74,12 +86,14 @@ module _ (after : ℕ) where
     header ← line_from after NoHeader (header_said sizes.fpgas) lines
     past_header sizes header.0 header.1
 
--- what the text says whose lines so far made this state, where these lines are still to come and `after` is the line after the text
+-- what the text says whose lines so far made this state, where these lines are still to come and `after` is
+-- the line after the text
 abbrev pub said_in : Role → Sizes → ℕ → Cert → ℕ → ℕ → List Line → Result Cert CertRefusal
 said_in role.Header sizes potentials cert left after lines = from_header after sizes lines
 said_in role.Weight sizes potentials cert left after lines = in_weights after sizes potentials cert left lines
 said_in role.Length sizes potentials cert left after lines = in_lengths after sizes potentials cert left lines
-said_in role.Potential sizes potentials cert left after lines = in_potentials after sizes potentials cert left lines
+said_in role.Potential sizes potentials cert left after lines =
+    in_potentials after sizes potentials cert left lines
 said_in role.Choice sizes potentials cert left after lines = in_choices after sizes potentials cert left lines
 said_in role.End sizes potentials cert left after lines = unless_more cert lines
 said_in (role.Refused refusal) sizes potentials cert left after lines = Err refusal
@@ -98,23 +112,27 @@ so_far state = record {
 }
 
 abbrev pub said_of : CertState → ℕ → List Line → Result Cert CertRefusal
-said_of state after lines = said_in state.role state.sizes state.header.potentials (so_far state) state.left after lines
+said_of state after lines = said_in state.role state.sizes state.header.potentials (so_far state) state.left
+    after lines
 
 -- the lines so far made this state: whatever comes, the text says what the state says of that
 abbrev pub Reads : CertState → List Line → Type 0
-Reads state done = (after : ℕ) (more : List Line) → from_header after state.sizes (done ++ more) ≡ said_of state after more
+Reads state done = (after : ℕ) (more : List Line) → from_header after state.sizes (done ++ more)
+    ≡ said_of state after more
 
 -- the first numbers of the line in progress
 abbrev pub Holds : CertState → List ℕ → Type 0
 Holds state numbers = AreFirst state.numbers numbers
 
--- of the line that ends, where it has no fault, the first numbers are kept: as many as a line can have, and one more
+-- of the line that ends, where it has no fault, the first numbers are kept: as many as a line can have, and
+-- one more
 abbrev pub AreTaken : Sizes → Firsts → Option TokenFault → List ℕ → Type 0
 AreTaken sizes kept fault numbers = fault ≡ None → kept.numbers ≡ take (sizes.fpgas + 5) numbers
 
 -- the line that ends is taken: the text says of the new state what it says of the old one and that line
 abbrev pub Takes : ℕ → Option TokenFault → (old new : CertState) → Type 0
-Takes line fault old new = (numbers : List ℕ) (after : ℕ) (more : List Line) → AreTaken old.sizes old.numbers fault numbers
+Takes line fault old new = (numbers : List ℕ) (after : ℕ) (more : List Line)
+    → AreTaken old.sizes old.numbers fault numbers
     → said_of old after (ended_line line fault numbers ∷ more) ≡ said_of new after more
 
 -- what is kept of a line, and that the numbers that were read keep to their ranges
@@ -153,7 +171,14 @@ pub record IsInChoices (potentials : ℕ) (cert : Cert) (left : ℕ) : Type 0 wh
   pub all_there : length cert.potentials ≡ potentials
 
 abbrev pub IsInRole : Role → ℕ → Cert → ℕ → Type 0
-IsInRole role.Header potentials cert left = cert ≡ record { kind = cert.kind; grows = cert.grows; weights = []; lengths = []; potentials = []; choices = [] }
+IsInRole role.Header potentials cert left = cert ≡ record {
+  kind = cert.kind;
+  grows = cert.grows;
+  weights = [];
+  lengths = [];
+  potentials = [];
+  choices = [];
+}
 IsInRole role.Weight potentials cert left = IsInWeights cert left
 IsInRole role.Length potentials cert left = IsInLengths cert left
 IsInRole role.Potential potentials cert left = IsInPotentials potentials cert left

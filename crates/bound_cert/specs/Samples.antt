@@ -5,7 +5,8 @@ use Rattle.tdm_problem.specs.Samples.{wire}
 use Rattle.bound_cert.specs.declared.certificate.CertKind.TheVariants.{Share, Hop}
 use Rattle.bound_cert.specs.Certificate.{Cert}
 
--- by shares, for two FPGAs and a wire: one group's weight, the wire's length, one potential with its two values, and each net's choice
+-- by shares, for two FPGAs and a wire: one group's weight, the wire's length, one potential with its two
+-- values, and each net's choice
 abbrev pub wire_cert : (weight wire_length first second : ℕ) → (choices : List ℕ) → Cert
 wire_cert weight wire_length first second choices = record {
   kind = Share;

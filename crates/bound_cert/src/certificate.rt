@@ -16,8 +16,9 @@ pub enum CertKind {
     Hop { unit: u64 },
 }
 
-/// A lower bound's certificate: a weight for each group, a length for each wire, and what nets are spread by. That is their
-/// growth over the lengths, or potentials with a value for each FPGA, and for each net which potential it chooses.
+/// A lower bound's certificate: a weight for each group, a length for each wire, and what nets are spread by.
+/// That is their growth over the lengths, or potentials with a value for each FPGA, and for each net which
+/// potential it chooses.
 #[derive(Drop)]
 pub struct Certificate {
     kind: CertKind,
@@ -111,8 +112,8 @@ impl Certificate {
         self.weights[g as usize]
     }
 
-    /// The length of wire `e`, counted from 0: at most [`MAX_LENGTH`](crate::MAX_LENGTH), and the unit where the
-    /// certificate is by hops.
+    /// The length of wire `e`, counted from 0: at most [`MAX_LENGTH`](crate::MAX_LENGTH), and the unit where
+    /// the certificate is by hops.
     pub fn length(&self, e: u32) -> u64
         requires { e < length self.now.lengths }
         ensures value { result ≡ length_of self.now e }

@@ -17,8 +17,8 @@ ghost use Rattle.bound_cert.specs.Valid.{IsSteep, IsValid};
 
 use tdm_problem::root_is_exact;
 
-/// FPGAs of a triangle, of a ring of five and of the star, all of whose wires are 1 long. On the star the heights fall
-/// along one wire in one direction and then in the other.
+/// FPGAs of a triangle, of a ring of five and of the star, all of whose wires are 1 long. On the star the
+/// heights fall along one wire in one direction and then in the other.
 fn fpgas_grow()
     ensures triangle { IsGrowth ring (λ e. 1) (0 ∷ 1 ∷ 2 ∷ []) 2 }
     ensures ring_of_five { IsGrowth ring_of_five (λ e. 1) (0 ∷ 2 ∷ 3 ∷ []) 3 }
@@ -59,11 +59,13 @@ fn a_potential_rises_by_the_length_at_most()
 fn certificates_have_texts()
     ensures share { cert_text (wire_cert 1 3 0 3 (1 ∷ 1 ∷ 1 ∷ [])) ≡ codes "1 1 0 1\n1\n3\n0 3\n1\n1\n1\n" }
     ensures hop { cert_text star_cert ≡ codes "1 2 1 1\n1\n1 0 2 2\n1\n" }
-    ensures growing_share { cert_text (growing_cert shared Share (1 ∷ []) (3 ∷ [])) ≡ codes "4 1 0 0\n1\n3\n" }
+    ensures growing_share { cert_text (growing_cert shared Share (1 ∷ []) (3 ∷ []))
+        ≡ codes "4 1 0 0\n1\n3\n" }
     ensures growing_hop { cert_text (group_growing_cert star 0) ≡ codes "4 2 1 0\n1\n" }
     ensures reads_share { cert_of shared (codes "1 1 0 1\n1\n3\n0 3\n1\n1\n1\n")
         ≡ Ok (wire_cert 1 3 0 3 (1 ∷ 1 ∷ 1 ∷ [])) }
-    ensures reads_growing_share { cert_of shared (codes "4 1 0 0\n1\n3\n") ≡ Ok (growing_cert shared Share (1 ∷ []) (3 ∷ [])) }
+    ensures reads_growing_share { cert_of shared (codes "4 1 0 0\n1\n3\n")
+        ≡ Ok (growing_cert shared Share (1 ∷ []) (3 ∷ [])) }
     ensures reads_growing_hop { cert_of star (codes "4 2 1 0\n1") ≡ Ok (group_growing_cert star 0) }
     ensures reads_hop { cert_of star (codes "1 2 01 1\r\n1\n\n1 0 2\t2\n1") ≡ Ok star_cert }
 {}
@@ -78,13 +80,16 @@ fn the_first_fault_decides()
     ensures few_values { cert_of pair (codes "1 1 0 1\n1\n1\n0\n1\n")
         ≡ Err (record { kind = WrongCount; line = 4 }) }
     ensures bad_version { cert_of pair (codes "2 1 0 0\n") ≡ Err (record { kind = BadVersion; line = 1 }) }
-    ensures no_third_version { cert_of pair (codes "3 1 0 0\n") ≡ Err (record { kind = BadVersion; line = 1 }) }
+    ensures no_third_version { cert_of pair (codes "3 1 0 0\n")
+        ≡ Err (record { kind = BadVersion; line = 1 }) }
     ensures bad_kind { cert_of pair (codes "1 3 0 0\n") ≡ Err (record { kind = BadKind; line = 1 }) }
     ensures bad_unit { cert_of pair (codes "1 1 1 0\n") ≡ Err (record { kind = BadUnit; line = 1 }) }
     ensures no_unit { cert_of pair (codes "1 2 0 0\n") ≡ Err (record { kind = BadUnit; line = 1 }) }
     ensures count_limit { cert_of pair (codes "1 1 0 4097\n") ≡ Err (record { kind = CountLimit; line = 1 }) }
-    ensures growing_potential { cert_of pair (codes "4 1 0 1\n") ≡ Err (record { kind = CountLimit; line = 1 }) }
-    ensures growing_choice { cert_of pair (codes "4 1 0 0\n1\n1\n0\n") ≡ Err (record { kind = ExtraLine; line = 4 }) }
+    ensures growing_potential { cert_of pair (codes "4 1 0 1\n")
+        ≡ Err (record { kind = CountLimit; line = 1 }) }
+    ensures growing_choice { cert_of pair (codes "4 1 0 0\n1\n1\n0\n")
+        ≡ Err (record { kind = ExtraLine; line = 4 }) }
     ensures weight_limit { cert_of pair (codes "1 1 0 0\n1099511627777\n")
         ≡ Err (record { kind = WeightLimit; line = 2 }) }
     ensures length_limit { cert_of pair (codes "1 1 0 0\n1\n281474976710657\n")
@@ -97,11 +102,18 @@ fn the_first_fault_decides()
         ≡ Err (record { kind = ExtraLine; line = 5 }) }
 {}
 
-/// Numbers at their limits are no fault, and one more is: the faults above have a weight, a length, a value and a choice
-/// of one more.
+/// Numbers at their limits are no fault, and one more is: the faults above have a weight, a length, a value
+/// and a choice of one more.
 fn limits_are_exact()
     ensures unit { cert_of pair (codes "1 2 1048576 0\n1\n0\n")
-        ≡ Ok (record { kind = Hop 1048576; grows = false; weights = 1 ∷ []; lengths = 1048576 ∷ []; potentials = []; choices = 0 ∷ [] }) }
+        ≡ Ok (record {
+          kind = Hop 1048576;
+          grows = false;
+          weights = 1 ∷ [];
+          lengths = 1048576 ∷ [];
+          potentials = [];
+          choices = 0 ∷ [];
+        }) }
     ensures above_unit { cert_of pair (codes "1 2 1048577 0\n1\n0\n")
         ≡ Err (record { kind = BadUnit; line = 1 }) }
     ensures potentials { count_said false 2 1 4096 ≡ Ok 4096 }
@@ -134,8 +146,8 @@ fn sources_and_floors()
     ensures no_parts { part_of 9 0 ≡ 0 }
 {}
 
-/// The floor by shares of three nets on one wire, in one group and in three: each net's root is that of the uniform
-/// weight, 1,024, so the one length is 3,072.
+/// The floor by shares of three nets on one wire, in one group and in three: each net's root is that of the
+/// uniform weight, 1,024, so the one length is 3,072.
 fn floors_by_shares()
     ensures length { uniform_length shared (1 ∷ 1 ∷ 1 ∷ []) ≡ 3072 }
     ensures together { share_floor shared (1 ∷ 1 ∷ 1 ∷ []) ≡ 10 }

@@ -12,8 +12,8 @@ use std::alloc::{AllocError, Global};
 use tdm_problem::Problem;
 
 /// The certificate by shares and by growth with these weights of the groups, each at most
-/// [`MAX_WEIGHT`](crate::MAX_WEIGHT), and these lengths of the wires, each at most [`MAX_LENGTH`](crate::MAX_LENGTH). The only
-/// error is want of memory.
+/// [`MAX_WEIGHT`](crate::MAX_WEIGHT), and these lengths of the wires, each at most
+/// [`MAX_LENGTH`](crate::MAX_LENGTH). The only error is want of memory.
 pub fn growing_share_cert(
     alloc: Global,
     problem: &Problem,
@@ -40,8 +40,8 @@ pub fn growing_share_cert(
     ))
 }
 
-/// The certificate by hops and by growth, with unit 1, that gives weight 1 to group `g` and 0 to the others. The only error
-/// is want of memory.
+/// The certificate by hops and by growth, with unit 1, that gives weight 1 to group `g` and 0 to the others.
+/// The only error is want of memory.
 pub fn growing_hop_cert(alloc: Global, problem: &Problem, g: u32) -> Result<Certificate, AllocError>
     requires there { g < length problem.now.groups }
     ensures made { IfOk result (λ cert. cert ≡ group_growing_cert problem.now g) }

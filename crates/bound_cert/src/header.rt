@@ -10,7 +10,8 @@ use crate::limits::{MAX_POTENTIALS, MAX_UNIT};
 use crate::refusal::{CertFault, CertTextKind};
 use tdm_lines::refused;
 
-/// What a header says: the kind, whether the spread of a net is its growth, and how many potentials there are.
+/// What a header says: the kind, whether the spread of a net is its growth, and how many potentials there
+/// are.
 #[derive(Clone, Copy)]
 pub(crate) struct Header {
     pub(crate) kind: CertKind,

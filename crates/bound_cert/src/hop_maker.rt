@@ -18,12 +18,12 @@ use board_graph::BoardGraph;
 use std::alloc::{AllocError, Global};
 use tdm_problem::Problem;
 
-/// The certificate by hops, with unit 1, that gives weight 1 to the first of the groups whose nets together reach
-/// farthest from their sources, and 0 to the others. There is a potential for each distinct source of a net, in the
-/// order in which the nets first have them: its value at an FPGA is the least number of hops from there, and 0 where
-/// no wires lead. Each net chooses the potential of its source. All nets can be joined, and the graph is that of the
-/// problem's board. The bound is twice the sum of the hops of that group's nets, each to its farthest FPGA. The only
-/// error is want of memory.
+/// The certificate by hops, with unit 1, that gives weight 1 to the first of the groups whose nets together
+/// reach farthest from their sources, and 0 to the others. There is a potential for each distinct source of a
+/// net, in the order in which the nets first have them: its value at an FPGA is the least number of hops from
+/// there, and 0 where no wires lead. Each net chooses the potential of its source. All nets can be joined,
+/// and the graph is that of the problem's board. The bound is twice the sum of the hops of that group's nets,
+/// each to its farthest FPGA. The only error is want of memory.
 pub fn hop_group_cert(
     alloc: Global,
     problem: &Problem,

@@ -17,8 +17,8 @@ use shortest_forest::{Forest, hops};
 use std::alloc::{AllocError, Global};
 use tdm_problem::Problem;
 
-/// What the certificates of a problem begin with: for each root the potential of its hops, which of them each net
-/// chooses, and the depth of each net.
+/// What the certificates of a problem begin with: for each root the potential of its hops, which of them each
+/// net chooses, and the depth of each net.
 #[derive(Drop)]
 pub(crate) struct HopReach {
     pub(crate) potentials: Vec<Potential>,

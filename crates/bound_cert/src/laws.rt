@@ -14,8 +14,8 @@ pub fn bound_is_least()
     ensures { LeastEvenLaw }
 {}
 
-/// The dual bound: no legal solution has a value below the bound of a valid certificate, of either kind, whether its nets
-/// are spread by their choices or by their growth.
+/// The dual bound: no legal solution has a value below the bound of a valid certificate, of either kind,
+/// whether its nets are spread by their choices or by their growth.
 pub fn dual_bound()
     ensures { DualBoundLaw }
 {}
@@ -27,9 +27,9 @@ pub fn bound_is_one()
     ensures chosen { ChosenBoundLaw }
 {}
 
-/// What joins FPGAs is at least as long as these grow: each in turn, but the first, until it reaches one that has not
-/// grown, over what the others have left of each wire's length in each direction. Source: the ascent on directed cuts
-/// (Wong, 1984). They grow by one number and no other.
+/// What joins FPGAs is at least as long as these grow: each in turn, but the first, until it reaches one that
+/// has not grown, over what the others have left of each wire's length in each direction. Source: the ascent
+/// on directed cuts (Wong, 1984). They grow by one number and no other.
 pub fn growth_is_short()
     ensures short { GrowthLaw }
     ensures one { OneGrowthLaw }

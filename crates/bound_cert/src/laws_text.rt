@@ -5,8 +5,8 @@ ghost use Rattle.bound_cert.specs.Certificate.{Cert, IsCert, IsCertFor};
 ghost use Rattle.bound_cert.specs.CertText.{cert_text};
 ghost use Rattle.bound_cert.specs.CertReading.{cert_of};
 
-/// What is written reads back: the text of a certificate for a board, where it has at most 2^30 bytes, says just
-/// that certificate.
+/// What is written reads back: the text of a certificate for a board, where it has at most 2^30 bytes, says
+/// just that certificate.
 pub fn reads_back()
     ensures { (board : Board) (cert : Cert) → IsCert cert → IsCertFor board cert →
         length (cert_text cert) ≤ 2 ^ 30 →

@@ -122,7 +122,8 @@ fn have(
     )
 }
 
-/// Makes the certificate of the three nets on a wire at weight 1 and length 3, and tells whether it has its numbers.
+/// Makes the certificate of the three nets on a wire at weight 1 and length 3, and tells whether it has its
+/// numbers.
 fn weighted_has_its_numbers(alloc: Global) -> Result<bool, AllocError> {
     let problem = three_nets(alloc)?;
     let graph = BoardGraph::of(alloc, &problem)?;

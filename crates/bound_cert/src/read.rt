@@ -18,12 +18,12 @@ pub const MAX_CERT_BYTES: usize = 1_073_741_824;
 /// potentials, then a line for each weight, for each length unless the certificate is by hops, for each potential
 /// and, unless nets grow, for each choice of a net.
 ///
-/// Whether the potentials are valid is not asked. A text of more than 2^30 bytes may be cut one byte past them,
-/// since it is refused all the same.
+/// Whether the potentials are valid is not asked. A text of more than 2^30 bytes may be cut one byte past
+/// them, since it is refused all the same.
 ///
 /// Refused where the text is no certificate for the problem, for the first line at fault and the first of the
-/// [`CertTextKind`]s that holds there; but a line behind the last one is ExtraLine, whatever it holds, and a text of
-/// more than 2^30 bytes is TooLong, before its lines are looked at. NoMemory where memory is wanting.
+/// [`CertTextKind`]s that holds there; but a line behind the last one is ExtraLine, whatever it holds, and a
+/// text of more than 2^30 bytes is TooLong, before its lines are looked at. NoMemory where memory is wanting.
 pub fn read_cert(alloc: Global, bytes: &[u8], problem: &Problem) -> Result<Certificate, CertFault>
     ensures ok { IfOk result (λ cert. cert_of problem.now bytes.now ≡ Ok cert) }
     ensures for_problem { IfOk result (IsCertFor problem.now) }

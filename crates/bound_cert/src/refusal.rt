@@ -6,8 +6,8 @@ use tdm_lines::{ReadingFault, Refusal, RefusalKind, TokenFault};
 
 /// What is wrong with a text that is no certificate.
 ///
-/// Of the kinds that hold of a line, the earlier one here is named. But a line behind the last one is ExtraLine, whatever
-/// it holds, and a text of too many bytes is TooLong, whatever its lines hold.
+/// Of the kinds that hold of a line, the earlier one here is named. But a line behind the last one is
+/// ExtraLine, whatever it holds, and a text of too many bytes is TooLong, whatever its lines hold.
 #[derive(Clone, Copy, Debug, PartialEq, Eq)]
 pub enum CertTextKind {
     /// No line of the text has a token.
@@ -22,7 +22,8 @@ pub enum CertTextKind {
     BadVersion,
     /// The header's kind is neither 1 nor 2.
     BadKind,
-    /// The header's unit is one that its kind cannot have: other than 0 for kind 1, 0 or above 2^20 for kind 2.
+    /// The header's unit is one that its kind cannot have: other than 0 for kind 1, 0 or above 2^20 for kind
+    /// 2.
     BadUnit,
     /// The header has more than 4,096 potentials, or some where the board has no FPGAs or the version is 4.
     CountLimit,

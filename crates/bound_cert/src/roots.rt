@@ -8,8 +8,8 @@ use indexmap::IndexSet;
 use std::alloc::{AllocError, Global};
 use tdm_problem::Problem;
 
-/// The sources of the nets, each once, in the order in which the nets first have them, and for each net its source's
-/// number among them plus 1.
+/// The sources of the nets, each once, in the order in which the nets first have them, and for each net its
+/// source's number among them plus 1.
 #[derive(Drop)]
 pub(crate) struct Roots {
     pub(crate) fpgas: IndexSet<u32>,

@@ -24,13 +24,14 @@ use integer_root::isqrt;
 use std::alloc::{AllocError, Global};
 use tdm_problem::Problem;
 
-/// The certificate by shares that gives each group the weight 2^20 and all wires one length: the sum over the nets
-/// of the root of the net's weight times the hops from its source to its farthest FPGA, divided by the number of
-/// wires and rounded down, or 0 without wires. There is a potential for each distinct source of a net, in the order in
-/// which the nets first have them: its value at an FPGA is the least distance from there, and 0 where no wires lead.
-/// Each net chooses the potential of its source. All nets can be joined, and the graph is that of the problem's board.
-/// The bound is the least even number that is, times the weight of all groups, at least twice the length times that
-/// sum less the square of the length for each wire. The only error is want of memory.
+/// The certificate by shares that gives each group the weight 2^20 and all wires one length: the sum over the
+/// nets of the root of the net's weight times the hops from its source to its farthest FPGA, divided by the
+/// number of wires and rounded down, or 0 without wires. There is a potential for each distinct source of a
+/// net, in the order in which the nets first have them: its value at an FPGA is the least distance from
+/// there, and 0 where no wires lead. Each net chooses the potential of its source. All nets can be joined,
+/// and the graph is that of the problem's board. The bound is the least even number that is, times the weight
+/// of all groups, at least twice the length times that sum less the square of the length for each wire. The
+/// only error is want of memory.
 pub fn uniform_share_cert(
     alloc: Global,
     problem: &Problem,
@@ -62,7 +63,8 @@ pub fn uniform_share_cert(
     ))
 }
 
-/// The one length of all wires: the depths of all nets, by the roots of their weights, divided by the number of wires.
+/// The one length of all wires: the depths of all nets, by the roots of their weights, divided by the number
+/// of wires.
 fn uniform_length(alloc: Global, problem: &Problem, depths: &[u64]) -> Result<u64, AllocError>
     requires depths { AreDepths problem.now depths.now }
     requires small { All (λ h. h ≤ most_fpgas) depths.now }
@@ -75,7 +77,8 @@ fn uniform_length(alloc: Global, problem: &Problem, depths: &[u64]) -> Result<u6
     Ok(part(total, problem.wires()))
 }
 
-/// The depths of all nets, by the roots of their weights: each group that holds a net adds the uniform weight.
+/// The depths of all nets, by the roots of their weights: each group that holds a net adds the uniform
+/// weight.
 fn rooted_depths(holders: &[u32], depths: &[u64]) -> u64
     requires count { length holders.now ≡ length depths.now }
     requires few { length depths.now ≤ most_nets }

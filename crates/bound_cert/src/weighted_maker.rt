@@ -38,13 +38,14 @@ impl Lengths for WireLengths<'_> {
     }
 }
 
-/// The certificate by shares with these weights of the groups, each at most [`MAX_WEIGHT`](crate::MAX_WEIGHT), and these
-/// lengths of the wires, each at most [`MAX_LENGTH`](crate::MAX_LENGTH). There is a potential for each distinct source
-/// of a net, in the order in which the nets first have them: its value at an FPGA is the least length of a walk from
-/// there, and 0 where no wires lead. Each net chooses the potential of its source. All nets can be joined, and the
-/// graph is that of the problem's board. The bound is the least even number that, times the sum of the weights, is at
-/// least twice the sum of the root of a net's weight times its depth over the lengths, less the square of the length of
-/// each wire. The only error is want of memory.
+/// The certificate by shares with these weights of the groups, each at most
+/// [`MAX_WEIGHT`](crate::MAX_WEIGHT), and these lengths of the wires, each at most
+/// [`MAX_LENGTH`](crate::MAX_LENGTH). There is a potential for each distinct source of a net, in the order in
+/// which the nets first have them: its value at an FPGA is the least length of a walk from there, and 0 where
+/// no wires lead. Each net chooses the potential of its source. All nets can be joined, and the graph is that
+/// of the problem's board. The bound is the least even number that, times the sum of the weights, is at least
+/// twice the sum of the root of a net's weight times its depth over the lengths, less the square of the
+/// length of each wire. The only error is want of memory.
 pub fn weighted_share_cert(
     alloc: Global,
     problem: &Problem,
@@ -64,8 +65,10 @@ pub fn weighted_share_cert(
     ensures valid { IfOk result (IsValid problem.now) }
     ensures bound { IfOk result (λ cert. IsShareBound problem.now weights.now
         (λ e. slice_index_or lengths.now e 0) (bound_of problem.now cert)) }
-    ensures only_bound { IfOk result (λ cert. (wire_length : ℕ → ℕ) → ListsLengths problem.now lengths.now wire_length
-        → (bound : ℕ) → IsShareBound problem.now weights.now wire_length bound → bound ≡ bound_of problem.now cert) }
+    ensures only_bound { IfOk result (λ cert. (wire_length : ℕ → ℕ)
+        → ListsLengths problem.now lengths.now wire_length
+        → (bound : ℕ) → IsShareBound problem.now weights.now wire_length bound
+        → bound ≡ bound_of problem.now cert) }
     ensures few { IfOk result (λ cert. sum_by length cert.potentials ≤ most_potential_values) }
 {
     let roots = Roots::of(alloc, problem)?;

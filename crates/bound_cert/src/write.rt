@@ -13,9 +13,9 @@ use crate::certificate::{CertKind, Certificate};
 use tdm_desk::{Desk, DeskFault, OutSlot};
 use text_writer::{Pending, flush, put_line, put_number, put_numbers};
 
-/// Adds the text of a certificate to the file of an open output: a header of the version, the kind, its unit and the
-/// number of potentials, then a line for each weight, for each length unless the certificate is by hops, for each
-/// potential and for each choice of a net unless nets grow.
+/// Adds the text of a certificate to the file of an open output: a header of the version, the kind, its unit
+/// and the number of potentials, then a line for each weight, for each length unless the certificate is by
+/// hops, for each potential and for each choice of a net unless nets grow.
 ///
 /// It takes no memory of its own. After a fault a prefix of the text was added, and the slot stays open.
 pub fn write_cert<D: Desk>(desk: &mut D, slot: OutSlot, cert: &Certificate) -> Result<(), DeskFault>

@@ -15,7 +15,8 @@ use Rattle.cert_checker.specs.Growing.{arcs_of, height_in, AreGoals, HasReached,
 
 module _ (board : Board) where
   -- FPGAs grow alike where the rests are the same along wires
-  grow-agree : (root : ℕ) (growing : List ℕ) (rests other : Arcs) → Agree board rests other → (growth : ℕ) → GrowOver board root growing rests growth → GrowOver board root growing other growth
+  grow-agree : (root : ℕ) (growing : List ℕ) (rests other : Arcs) → Agree board rests other → (growth : ℕ)
+      → GrowOver board root growing rests growth → GrowOver board root growing other growth
   grow-agree root [] rests other agree growth none = none
   grow-agree root (x ∷ more) rests other agree growth (reach, is, (heights, are, (rest, grows, sum))) =
       let back = agree-back board rests other agree in (
@@ -24,58 +25,90 @@ module _ (board : Board) where
           nearest = is.nearest;
           listed = is.listed;
           way = (is.way.0, walk-agree board rests other agree x is.way.0 is.nearest reach is.way.1);
-          least = λ f es total there walk. is.least f es total there (walk-agree board other rests back x es f total walk);
+          least = λ f es total there walk. is.least f es total there
+              (walk-agree board other rests back x es f total walk);
         },
         (
           heights,
           λ f. record {
-            enough = λ es total walk. (are f).enough es total (walk-agree board other rests back x es f total walk);
-            exact = ⊎_elim (λ low. inl low) (λ near. inr (near.0, (near.1.0, walk-agree board rests other agree x near.0 f near.1.0 near.1.1, near.1.2))) (are f).exact;
+            enough = λ es total walk. (are f).enough es total
+                (walk-agree board other rests back x es f total walk);
+            exact = ⊎_elim (λ low. inl low) (λ near. inr (
+              near.0,
+              (near.1.0, walk-agree board rests other agree x near.0 f near.1.0 near.1.1, near.1.2),
+            ))
+                (are f).exact;
           },
-          (rest, grow-agree root more (worn rests heights) (worn other heights) (λ e v u links. omega (arith, agree e v u links)) rest grows, sum),
+          (
+            rest,
+            grow-agree root more (worn rests heights) (worn other heights) (λ e v u links. omega (
+              arith,
+              agree e v u links,
+            )) rest grows,
+            sum,
+          ),
         ),
       )
 
   -- one FPGA grew, and others are to grow over what it left
-  pub grow-first : (root x : ℕ) (more : List ℕ) (rests other : Arcs) (s : Labels) (reach rest : ℕ) → HasReached board rests x s reach → AreGoals (root ∷ more) s.goals →
-      IsWorn board (height_in s reach) rests other ⊎ (more ≡ []) → GrowOver board root more other rest → GrowOver board root (x ∷ more) rests (reach + rest)
-  grow-first root x more rests other s reach rest reached goals wore grows =
-      (reach, reached.reaches (root ∷ more) goals, (height_in s reach, reached.heights, (rest, after wore, refl)))
+  pub grow-first : (root x : ℕ) (more : List ℕ) (rests other : Arcs) (s : Labels) (reach rest : ℕ)
+      → HasReached board rests x s reach → AreGoals (root ∷ more) s.goals →
+      IsWorn board (height_in s reach) rests other ⊎ (more ≡ []) → GrowOver board root more other rest
+      → GrowOver board root (x ∷ more) rests (reach + rest)
+  grow-first root x more rests other s reach rest reached goals wore grows = (
+    reach,
+    reached.reaches (root ∷ more) goals,
+    (height_in s reach, reached.heights, (rest, after wore, refl)),
+  )
     where
-      after : IsWorn board (height_in s reach) rests other ⊎ (more ≡ []) → GrowOver board root more (worn rests (height_in s reach)) rest
+      after : IsWorn board (height_in s reach) rests other ⊎ (more ≡ [])
+          → GrowOver board root more (worn rests (height_in s reach)) rest
       after (inl worn') = grow-agree root more other (worn rests (height_in s reach)) worn' rest grows
       after (inr none) =
-          let last : GrowOver board root [] other rest = subst (λ (xs : List ℕ). GrowOver board root xs other rest) none grows in
-          subst (λ (xs : List ℕ). GrowOver board root xs (worn rests (height_in s reach)) rest) (sym none) last
+          let last : GrowOver board root [] other rest =
+          subst (λ (xs : List ℕ). GrowOver board root xs other rest) none grows in
+          subst (λ (xs : List ℕ). GrowOver board root xs (worn rests (height_in s reach)) rest)
+          (sym none) last
 
 -- a goal less
-goals-less : (live : List ℕ) (x : ℕ) (goals : List Bool) → ((f : ℕ) → IsGoal goals f ↔ ((x ≡ f) ⊎ Contains live f)) → ¬ Contains live x → AreGoals live (set goals x false)
+goals-less : (live : List ℕ) (x : ℕ) (goals : List Bool)
+    → ((f : ℕ) → IsGoal goals f ↔ ((x ≡ f) ⊎ Contains live f)) → ¬ Contains live x
+    → AreGoals live (set goals x false)
 goals-less live x goals are absent f = go (cases_eq f x)
   where
     off : get_or (set goals x false) x false ≡ false
     off = ⊎_elim
         (λ (below : x < length goals). get_or-set_same goals x false false below)
-        (λ (past : length goals ≤ x). get_or_past (set goals x false) x false (omega (arith, past, length-set goals x false)))
+        (λ (past : length goals ≤ x). get_or_past (set goals x false) x false (omega (
+          arith,
+          past,
+          length-set goals x false,
+        )))
         (cases_lt x (length goals))
 
     go : (f ≡ x) ⊎ (f ≡ x → ⊥) → IsGoal (set goals x false) f ↔ Contains live f
     go (inl same') = (
-      λ on. absurd (false≢true (sym off ∙ ap (λ (k : ℕ). get_or (set goals x false) k false) (sym same') ∙ on)),
+      λ on. absurd (false≢true (sym off ∙ ap (λ (k : ℕ). get_or (set goals x false) k false) (sym same')
+          ∙ on)),
       λ there. absurd (absent (subst (λ (k : ℕ). Contains live k) same' there)),
     )
     go (inr other) =
-        let kept : get_or (set goals x false) f false ≡ get_or goals f false = get_or-set_other goals x f false false other in (
-          λ on. ⊎_elim (λ (even : x ≡ f). absurd (other (sym even))) (λ (there : Contains live f). there) ((are f).0 (sym kept ∙ on)),
+        let kept : get_or (set goals x false) f false ≡ get_or goals f false =
+        get_or-set_other goals x f false false other in (
+          λ on. ⊎_elim (λ (even : x ≡ f). absurd (other (sym even))) (λ (there : Contains live f). there)
+              ((are f).0 (sym kept ∙ on)),
           λ there. kept ∙ (are f).1 (inr there),
         )
 
 -- the elements of a list with one that is second
-second-cases : (root x : ℕ) (more : List ℕ) (f : ℕ) → Contains (root ∷ x ∷ more) f → (x ≡ f) ⊎ Contains (root ∷ more) f
+second-cases : (root x : ℕ) (more : List ℕ) (f : ℕ) → Contains (root ∷ x ∷ more) f → (x ≡ f)
+    ⊎ Contains (root ∷ more) f
 second-cases root x more f (zero, inside, is) = inr (0, omega arith, is)
 second-cases root x more f (suc zero, inside, is) = inl is
 second-cases root x more f (suc (suc k), inside, is) = inr (suc k, omega (arith, inside), is)
 
-second-back : (root x : ℕ) (more : List ℕ) (f : ℕ) → (x ≡ f) ⊎ Contains (root ∷ more) f → Contains (root ∷ x ∷ more) f
+second-back : (root x : ℕ) (more : List ℕ) (f : ℕ) → (x ≡ f) ⊎ Contains (root ∷ more) f
+    → Contains (root ∷ x ∷ more) f
 second-back root x more f (inl is) = (1, omega arith, is)
 second-back root x more f (inr (zero, inside, is)) = (0, omega arith, is)
 second-back root x more f (inr (suc k, inside, is)) = (suc (suc k), omega (arith, inside), is)
@@ -88,30 +121,43 @@ module _ (root : ℕ) (growing : List ℕ) (i : ℕ) (below : i < length growing
   absent : AllPairs (λ x y. x ≢ y) (root ∷ growing) → ¬ Contains (root ∷ drop (i + 1) growing) x-of
   absent distinct (zero, inside, is) = distinct 0 (suc i) 0 (omega arith) (omega (arith, below)) is
   absent distinct (suc k, inside, is) =
-      let place : get_or (drop (i + 1) growing) k x-of ≡ get_or growing ((i + 1) + k) x-of = get_or-drop (i + 1) growing k x-of in
-      let later : suc ((i + 1) + k) < length (root ∷ growing) = omega (arith, inside, length-drop (i + 1) growing) in
-      distinct (suc i) (suc ((i + 1) + k)) x-of (omega arith) later (get_or_default growing i x-of 0 below ∙ sym is ∙ place)
+      let place : get_or (drop (i + 1) growing) k x-of ≡ get_or growing ((i + 1) + k) x-of =
+      get_or-drop (i + 1) growing k x-of in
+      let later : suc ((i + 1) + k) < length (root ∷ growing) =
+      omega (arith, inside, length-drop (i + 1) growing) in
+      distinct (suc i) (suc ((i + 1) + k)) x-of (omega arith) later (get_or_default growing i x-of 0 below
+      ∙ sym is ∙ place)
 
-  pub goals-after : (goals new : List Bool) → AllPairs (λ x y. x ≢ y) (root ∷ growing) → AreGoals (root ∷ drop i growing) goals → new ≡ set goals x-of false → AreGoals (root ∷ drop (i + 1) growing) new
+  pub goals-after : (goals new : List Bool) → AllPairs (λ x y. x ≢ y) (root ∷ growing)
+      → AreGoals (root ∷ drop i growing) goals → new ≡ set goals x-of false
+      → AreGoals (root ∷ drop (i + 1) growing) new
   goals-after goals new distinct are is =
       let unfolded : drop i growing ≡ x-of ∷ drop (i + 1) growing = drop_more growing i 0 below in
-      let before : AreGoals (root ∷ x-of ∷ drop (i + 1) growing) goals = subst (λ (xs : List ℕ). AreGoals (root ∷ xs) goals) unfolded are in
+      let before : AreGoals (root ∷ x-of ∷ drop (i + 1) growing) goals =
+      subst (λ (xs : List ℕ). AreGoals (root ∷ xs) goals) unfolded are in
       subst (λ (gs : List Bool). AreGoals (root ∷ drop (i + 1) growing) gs) (sym is)
       (goals-less (root ∷ drop (i + 1) growing) x-of goals
-      (λ f. (λ on. second-cases root x-of (drop (i + 1) growing) f ((before f).0 on), λ there. (before f).1 (second-back root x-of (drop (i + 1) growing) f there)))
+      (λ f. (
+        λ on. second-cases root x-of (drop (i + 1) growing) f ((before f).0 on),
+        λ there. (before f).1 (second-back root x-of (drop (i + 1) growing) f there),
+      ))
       (absent distinct))
 
-  pub IsGrowing-more : (board : Board) (start rests other : Arcs) (s : Labels) (goals : List Bool) (growth reach : ℕ) → IsGrowing board root growing start i growth rests goals →
-      HasReached board rests x-of s reach → AreGoals (root ∷ drop (i + 1) growing) s.goals → reach < 2 ^ 64 → (i + 1 < length growing → IsWorn board (height_in s reach) rests other) →
+  pub IsGrowing-more : (board : Board) (start rests other : Arcs) (s : Labels) (goals : List Bool)
+      (growth reach : ℕ) → IsGrowing board root growing start i growth rests goals →
+      HasReached board rests x-of s reach → AreGoals (root ∷ drop (i + 1) growing) s.goals → reach < 2 ^ 64
+      → (i + 1 < length growing → IsWorn board (height_in s reach) rests other) →
       IsGrowing board root growing start (i + 1) (growth + reach) other s.goals
   IsGrowing-more board start rests other s goals growth reach before reached are small wore = record {
     goals_are = are;
     follows = λ rest grows.
         let unfolded : drop i growing ≡ x-of ∷ drop (i + 1) growing = drop_more growing i 0 below in
-        let first = grow-first board root x-of (drop (i + 1) growing) rests other s reach rest reached are wears grows in
+        let first = grow-first board root x-of (drop (i + 1) growing) rests other s reach rest reached are
+        wears grows in
         let sum : growth + (reach + rest) ≡ (growth + reach) + rest = omega arith in
         subst (λ (g : ℕ). GrowOver board root growing start g) sum
-        (before.follows (reach + rest) (subst (λ (xs : List ℕ). GrowOver board root xs rests (reach + rest)) (sym unfolded) first));
+        (before.follows (reach + rest) (subst (λ (xs : List ℕ). GrowOver board root xs rests (reach + rest))
+        (sym unfolded) first));
     small = omega (arith, before.small, small);
   }
     where
@@ -122,37 +168,53 @@ module _ (root : ℕ) (growing : List ℕ) (i : ℕ) (below : i < length growing
           (cases_lt (i + 1) (length growing))
 
   -- where no wires lead on, the FPGAs are not joined
-  pub not-joined : (board : Board) (s : Labels) → ReachesNone board x-of s → AreGoals (root ∷ drop (i + 1) growing) s.goals → ¬ IsConnectable board (root ∷ growing)
+  pub not-joined : (board : Board) (s : Labels) → ReachesNone board x-of s
+      → AreGoals (root ∷ drop (i + 1) growing) s.goals → ¬ IsConnectable board (root ∷ growing)
   not-joined board s none are joins =
-      let walk = joins x-of root (suc i, omega (arith, below), get_or_default growing i x-of 0 below) (0, omega arith, refl) in
+      let walk = joins x-of root (suc i, omega (arith, below), get_or_default growing i x-of 0 below) (
+        0,
+        omega arith,
+        refl,
+      ) in
       none root walk.0 ((are root).1 (0, omega arith, refl)) walk.1
 
 -- before the first grows
-pub IsGrowing-none : (board : Board) (root : ℕ) (growing : List ℕ) (rests : Arcs) (goals : List Bool) → AreGoals (root ∷ growing) goals → IsGrowing board root growing rests 0 0 rests goals
+pub IsGrowing-none : (board : Board) (root : ℕ) (growing : List ℕ) (rests : Arcs) (goals : List Bool)
+    → AreGoals (root ∷ growing) goals → IsGrowing board root growing rests 0 0 rests goals
 IsGrowing-none board root growing rests goals are = record {
   goals_are = are;
-  follows = λ rest grows. (let sum : rest ≡ 0 + rest = omega arith in subst (λ (g : ℕ). GrowOver board root growing rests g) sum grows);
+  follows = λ rest grows. (let sum : rest ≡ 0 + rest = omega arith in
+      subst (λ (g : ℕ). GrowOver board root growing rests g) sum grows);
   small = omega arith;
 }
 
 -- once nothing is to grow
-pub IsGrowing-whole : (board : Board) (root : ℕ) (growing : List ℕ) (start rests : Arcs) (i growth : ℕ) (goals : List Bool) → IsGrowing board root growing start i growth rests goals → length growing ≤ i → GrowOver board root growing start growth
+pub IsGrowing-whole : (board : Board) (root : ℕ) (growing : List ℕ) (start rests : Arcs) (i growth : ℕ)
+    (goals : List Bool) → IsGrowing board root growing start i growth rests goals → length growing ≤ i
+    → GrowOver board root growing start growth
 IsGrowing-whole board root growing start rests i growth goals grows past =
     let none : GrowOver board root [] rests 0 = refl in
-    let last = grows.follows 0 (subst (λ (xs : List ℕ). GrowOver board root xs rests 0) (sym (drop_of_length-le growing past)) none) in
+    let last = grows.follows 0 (subst (λ (xs : List ℕ). GrowOver board root xs rests 0)
+    (sym (drop_of_length-le growing past)) none) in
     let sum : growth + 0 ≡ growth = omega arith in
     subst (λ (g : ℕ). GrowOver board root growing start g) sum last
 
 -- goals are among the FPGAs
-pub goals-among : (root : ℕ) (growing : List ℕ) (i : ℕ) (goals : List Bool) → AreGoals (root ∷ drop i growing) goals → (f : ℕ) → IsGoal goals f → Contains (root ∷ growing) f
+pub goals-among : (root : ℕ) (growing : List ℕ) (i : ℕ) (goals : List Bool)
+    → AreGoals (root ∷ drop i growing) goals → (f : ℕ) → IsGoal goals f → Contains (root ∷ growing) f
 goals-among root growing i goals are f on = go ((are f).0 on)
   where
     go : Contains (root ∷ drop i growing) f → Contains (root ∷ growing) f
     go (zero, inside, is) = (0, omega arith, is)
-    go (suc k, inside, is) = (suc (i + k), omega (arith, inside, length-drop i growing), sym (get_or-drop i growing k f) ∙ is)
+    go (suc k, inside, is) = (
+      suc (i + k),
+      omega (arith, inside, length-drop i growing),
+      sym (get_or-drop i growing k f) ∙ is,
+    )
 
 -- the lengths are the same both ways
-even-arcs : (board : Board) (lengths : List ℕ) → Agree board (arcs_of lengths lengths) (both_ways (slice_index lengths))
+even-arcs : (board : Board) (lengths : List ℕ)
+    → Agree board (arcs_of lengths lengths) (both_ways (slice_index lengths))
 even-arcs board lengths e from to links = go (nat_lt from to)
   where
     go : (b : Bool) → cond b (slice_index lengths e) (slice_index lengths e) ≡ slice_index lengths e
@@ -160,8 +222,10 @@ even-arcs board lengths e from to links = go (nat_lt from to)
     go false = refl
 
 -- what grew over whole lengths is the growth
-pub growth-ok : (board : Board) (lengths up down : List ℕ) (root : ℕ) (growing : List ℕ) → up ≡ lengths → down ≡ lengths → (grown : Result ℕ AllocError) →
-    IfOk grown (λ growth. (GrowOver board root growing (arcs_of up down) growth) ⊎ ((growth ≡ 0) × ¬ IsConnectable board (root ∷ growing))) →
+pub growth-ok : (board : Board) (lengths up down : List ℕ) (root : ℕ) (growing : List ℕ) → up ≡ lengths
+    → down ≡ lengths → (grown : Result ℕ AllocError) →
+    IfOk grown (λ growth. (GrowOver board root growing (arcs_of up down) growth)
+    ⊎ ((growth ≡ 0) × ¬ IsConnectable board (root ∷ growing))) →
     IfOk grown (IsGrowth board (slice_index lengths) (root ∷ growing))
 growth-ok board lengths up down root growing is_up is_down (Err none) grew = grew
 growth-ok board lengths up down root growing is_up is_down (Ok growth) (inr none) = inr none
@@ -169,4 +233,5 @@ growth-ok board lengths up down root growing is_up is_down (Ok growth) (inl grow
     let over' : GrowOver board root growing (arcs_of lengths lengths) growth =
     subst (λ (us : List ℕ). GrowOver board root growing (arcs_of us lengths) growth) is_up
     (subst (λ (ds : List ℕ). GrowOver board root growing (arcs_of up ds) growth) is_down grows) in
-    inl (grow-agree board root growing (arcs_of lengths lengths) (both_ways (slice_index lengths)) (even-arcs board lengths) growth over')
+    inl (grow-agree board root growing (arcs_of lengths lengths) (both_ways (slice_index lengths))
+    (even-arcs board lengths) growth over')

@@ -28,93 +28,134 @@ module _ (weights : List ℕ) where
     whole = λ k less. absurd (omega (arith, less));
   }
 
-  pub AreMarkedNets-pass : (n : ℕ) (marks : List SetMark) → slice_index weights n ≡ 0 → AreMarkedNets weights n marks → AreMarkedNets weights (n + 1) marks
+  pub AreMarkedNets-pass : (n : ℕ) (marks : List SetMark) → slice_index weights n ≡ 0
+      → AreMarkedNets weights n marks → AreMarkedNets weights (n + 1) marks
   AreMarkedNets-pass n marks low are = record {
     weighed = are.weighed;
     whole = λ k less weighs. go k less weighs (cases_eq k n);
   }
     where
       go : (k : ℕ) → k < n + 1 → 0 < slice_index weights k → (k ≡ n) ⊎ (k ≡ n → ⊥) → HasNet marks k
-      go k less weighs (inl even) = absurd (omega (arith, weighs, low, ap (λ (j : ℕ). slice_index weights j) even))
+      go k less weighs (inl even) =
+          absurd (omega (arith, weighs, low, ap (λ (j : ℕ). slice_index weights j) even))
       go k less weighs (inr differ) = are.whole k (omega (arith, less, differ)) weighs
 
-  pub AreMarkedNets-more : (n mark : ℕ) (marks : List SetMark) → n < length weights → slice_index weights n ≢ 0 → AreMarkedNets weights n marks →
+  pub AreMarkedNets-more : (n mark : ℕ) (marks : List SetMark) → n < length weights
+      → slice_index weights n ≢ 0 → AreMarkedNets weights n marks →
       AreMarkedNets weights (n + 1) (marks ++ record { mark = mark; net = n } ∷ [])
   AreMarkedNets-more n mark marks below weighty are = record {
-    weighed = All-push (λ (m : SetMark). (m.net < length weights) × (0 < slice_index weights m.net)) marks new are.weighed (below, omega (arith, weighty));
+    weighed = All-push (λ (m : SetMark). (m.net < length weights) × (0 < slice_index weights m.net)) marks new
+        are.weighed (below, omega (arith, weighty));
     whole = λ k less weighs. go k less weighs (cases_eq k n);
   }
     where
       new : SetMark
       new = record { mark = mark; net = n }
 
-      go : (k : ℕ) → k < n + 1 → 0 < slice_index weights k → (k ≡ n) ⊎ (k ≡ n → ⊥) → HasNet (marks ++ record { mark = mark; net = n } ∷ []) k
-      go k less weighs (inl even) = (mark, subst (λ (j : ℕ). Contains (marks ++ record { mark = mark; net = n } ∷ []) (record { mark = mark; net = j })) (sym even) (Contains-push marks (record { mark = mark; net = n })))
+      go : (k : ℕ) → k < n + 1 → 0 < slice_index weights k → (k ≡ n) ⊎ (k ≡ n → ⊥)
+          → HasNet (marks ++ record { mark = mark; net = n } ∷ []) k
+      go k less weighs (inl even) = (
+        mark,
+        subst (λ (j : ℕ). Contains (marks ++ record { mark = mark; net = n } ∷ [])
+            (record { mark = mark; net = j })) (sym even)
+            (Contains-push marks (record { mark = mark; net = n })),
+      )
       go k less weighs (inr differ) =
-          let before = are.whole k (omega (arith, less, differ)) weighs in
-          (before.0, Contains-append_left marks (record { mark = mark; net = n } ∷ []) (record { mark = before.0; net = k }) before.1)
+          let before = are.whole k (omega (arith, less, differ)) weighs in (
+            before.0,
+            Contains-append_left marks (record { mark = mark; net = n } ∷ [])
+                (record { mark = before.0; net = k }) before.1,
+          )
 
-  pub weighed-sorted : (n : ℕ) (marks sorted : List SetMark) → IsPermutation marks sorted → AreMarkedNets weights n marks → AreWeighed weights sorted
-  weighed-sorted n marks sorted moved are = All-permutation (λ (m : SetMark). (m.net < length weights) × (0 < slice_index weights m.net)) marks sorted moved are.weighed
+  pub weighed-sorted : (n : ℕ) (marks sorted : List SetMark) → IsPermutation marks sorted
+      → AreMarkedNets weights n marks → AreWeighed weights sorted
+  weighed-sorted n marks sorted moved are = All-permutation (λ (m : SetMark). (m.net < length weights)
+      × (0 < slice_index weights m.net)) marks sorted moved are.weighed
 
-  pub whole-sorted : (n : ℕ) (marks sorted : List SetMark) → IsPermutation marks sorted → AreMarkedNets weights n marks →
+  pub whole-sorted : (n : ℕ) (marks sorted : List SetMark) → IsPermutation marks sorted
+      → AreMarkedNets weights n marks →
       (k : ℕ) → k < n → 0 < slice_index weights k → HasNet sorted k
   whole-sorted n marks sorted moved are k below weighs =
       let has = are.whole k below weighs in
       (has.0, Contains-permutation marks sorted (record { mark = has.0; net = k }) moved has.1)
 
 -- the nets of the first i marks are grown, and those without weight have the number 0
-pub record AreGrown (board : Board) (wire_length : ℕ → ℕ) (weights : List ℕ) (marks : List SetMark) (i : ℕ) (growths : List ℕ) : Type 0 where
+pub record AreGrown (board : Board) (wire_length : ℕ → ℕ) (weights : List ℕ) (marks : List SetMark) (i : ℕ)
+    (growths : List ℕ) : Type 0 where
   pub whole : length growths ≡ length board.nets
   pub each : (j : ℕ) (m : SetMark) → j < i → slice_get marks j ≡ Some m
       → IsNetGrowth board wire_length m.net (slice_index growths m.net)
   pub none : (n : ℕ) → slice_index weights n ≡ 0 → slice_index growths n ≡ 0
 
 module _ (board : Board) (wire_length : ℕ → ℕ) (weights : List ℕ) (marks : List SetMark) where
-  pub AreGrown-none : (count : ℕ) → count ≡ length board.nets → AreGrown board wire_length weights marks 0 (replicate count 0)
+  pub AreGrown-none : (count : ℕ) → count ≡ length board.nets
+      → AreGrown board wire_length weights marks 0 (replicate count 0)
   AreGrown-none count whole = record {
     whole = length-replicate count (let none : ℕ = 0 in none) ∙ whole;
     each = λ j m less is. absurd (omega (arith, less));
     none = λ n low. ⊎_elim (λ (below : n < count). get_or-replicate count n 0 0 below)
-        (λ (past : count ≤ n). get_or_past (replicate count 0) n 0 (omega (arith, past, length-replicate count (let none : ℕ = 0 in none)))) (cases_lt n count);
+        (λ (past : count ≤ n). get_or_past (replicate count 0) n 0 (omega (
+          arith,
+          past,
+          length-replicate count (let none : ℕ = 0 in none),
+        ))) (cases_lt n count);
   }
 
-  pub AreGrown-more : (i : ℕ) (growths : List ℕ) (mark : SetMark) (growth : ℕ) → mark.net < length board.nets → 0 < slice_index weights mark.net → slice_get marks i ≡ Some mark →
+  pub AreGrown-more : (i : ℕ) (growths : List ℕ) (mark : SetMark) (growth : ℕ) → mark.net < length board.nets
+      → 0 < slice_index weights mark.net → slice_get marks i ≡ Some mark →
       IsNetGrowth board wire_length mark.net growth → AreGrown board wire_length weights marks i growths →
       AreGrown board wire_length weights marks (i + 1) (set growths mark.net growth)
   AreGrown-more i growths mark growth below weighs is grows are = record {
     whole = length-set growths mark.net growth ∙ are.whole;
     each = λ j m less at. go j m less at (cases_eq m.net mark.net);
-    none = λ n low. get_or-set_other growths mark.net n growth 0 (λ even. omega (arith, low, weighs, ap (λ (k : ℕ). slice_index weights k) even)) ∙ are.none n low;
+    none = λ n low. get_or-set_other growths mark.net n growth 0 (λ even. omega (
+      arith,
+      low,
+      weighs,
+      ap (λ (k : ℕ). slice_index weights k) even,
+    )) ∙ are.none n low;
   }
     where
       here : IsNetGrowth board wire_length mark.net (slice_index (set growths mark.net growth) mark.net)
-      here = subst (λ (g : ℕ). IsNetGrowth board wire_length mark.net g) (sym (get_or-set_same growths mark.net growth 0 (omega (arith, below, are.whole)))) grows
+      here = subst (λ (g : ℕ). IsNetGrowth board wire_length mark.net g)
+          (sym (get_or-set_same growths mark.net growth 0 (omega (arith, below, are.whole)))) grows
 
-      go : (j : ℕ) (m : SetMark) → j < i + 1 → slice_get marks j ≡ Some m → (m.net ≡ mark.net) ⊎ (m.net ≡ mark.net → ⊥) → IsNetGrowth board wire_length m.net (slice_index (set growths mark.net growth) m.net)
-      go j m less at (inl even) = subst (λ (n : ℕ). IsNetGrowth board wire_length n (slice_index (set growths mark.net growth) n)) (sym even) here
+      go : (j : ℕ) (m : SetMark) → j < i + 1 → slice_get marks j ≡ Some m → (m.net ≡ mark.net)
+          ⊎ (m.net ≡ mark.net → ⊥)
+          → IsNetGrowth board wire_length m.net (slice_index (set growths mark.net growth) m.net)
+      go j m less at (inl even) =
+          subst (λ (n : ℕ). IsNetGrowth board wire_length n (slice_index (set growths mark.net growth) n))
+          (sym even) here
       go j m less at (inr differ) = by (cases_lt j i)
         where
-          by : (j < i) ⊎ (i ≤ j) → IsNetGrowth board wire_length m.net (slice_index (set growths mark.net growth) m.net)
-          by (inl before) = subst (λ (g : ℕ). IsNetGrowth board wire_length m.net g) (sym (get_or-set_other growths mark.net m.net growth 0 differ)) (are.each j m before at)
+          by : (j < i) ⊎ (i ≤ j)
+              → IsNetGrowth board wire_length m.net (slice_index (set growths mark.net growth) m.net)
+          by (inl before) = subst (λ (g : ℕ). IsNetGrowth board wire_length m.net g)
+              (sym (get_or-set_other growths mark.net m.net growth 0 differ)) (are.each j m before at)
           by (inr last) =
               let even : j ≡ i = omega (arith, less, last) in
-              absurd (differ (ap (λ (x : SetMark). x.net) (sym (get_or_from_slice_get marks i m m (ap (λ (k : ℕ). slice_get marks k) (sym even) ∙ at)) ∙ get_or_from_slice_get marks i mark m is)))
+              absurd (differ (ap (λ (x : SetMark). x.net)
+              (sym (get_or_from_slice_get marks i m m (ap (λ (k : ℕ). slice_get marks k) (sym even)
+              ∙ at)) ∙ get_or_from_slice_get marks i mark m is)))
 
-  pub AreGrowths-all : (i : ℕ) (growths : List ℕ) → length marks ≤ i → ((n : ℕ) → n < length board.nets → 0 < slice_index weights n → HasNet marks n) →
+  pub AreGrowths-all : (i : ℕ) (growths : List ℕ) → length marks ≤ i
+      → ((n : ℕ) → n < length board.nets → 0 < slice_index weights n → HasNet marks n) →
       AreGrown board wire_length weights marks i growths → AreGrowths board wire_length weights growths
   AreGrowths-all i growths past has are = record {
     whole = are.whole;
     each = λ n below weighs.
         let found = has n below weighs in
         are.each found.1.0 (record { mark = found.0; net = n }) (omega (arith, found.1.1, past))
-        (slice_get-get_or marks found.1.0 (record { mark = found.0; net = n }) found.1.1 ∙ ap (λ (m : SetMark). Some m) found.1.2);
+        (slice_get-get_or marks found.1.0 (record { mark = found.0; net = n }) found.1.1
+        ∙ ap (λ (m : SetMark). Some m) found.1.2);
     none = are.none;
   }
 
 -- rising FPGAs that grow over the wires of a graph are how far the net of a board grows
-pub net_growth-on_graph : (board graph : Board) (wire_length : ℕ → ℕ) (n : ℕ) (fpgas rising : List ℕ) (growth : ℕ) → graph.wires ≡ board.wires →
-    fpgas ≡ terminals_of board n → AreRising fpgas rising → IsGrowth graph wire_length rising growth → IsNetGrowth board wire_length n growth
+pub net_growth-on_graph : (board graph : Board) (wire_length : ℕ → ℕ) (n : ℕ) (fpgas rising : List ℕ)
+    (growth : ℕ) → graph.wires ≡ board.wires →
+    fpgas ≡ terminals_of board n → AreRising fpgas rising → IsGrowth graph wire_length rising growth
+    → IsNetGrowth board wire_length n growth
 net_growth-on_graph board graph wire_length n fpgas rising growth wires own are grows = record {
   rising = rising;
   are = subst (λ (fs : List ℕ). AreRising fs rising) own are;
@@ -122,8 +163,12 @@ net_growth-on_graph board graph wire_length n fpgas rising growth wires own are 
 }
 
 -- different FPGAs that are sorted rise
-pub rising-sorted : (fpgas sorted : List ℕ) → AllPairs (λ x y. x ≢ y) fpgas → IsPermutation fpgas sorted → IsSorted nat_cmp sorted → AreRising fpgas sorted
+pub rising-sorted : (fpgas sorted : List ℕ) → AllPairs (λ x y. x ≢ y) fpgas → IsPermutation fpgas sorted
+    → IsSorted nat_cmp sorted → AreRising fpgas sorted
 rising-sorted fpgas sorted distinct moved in_order = record {
   rises = sorted_rising fpgas sorted distinct moved in_order;
-  same = λ f. (Contains-permutation sorted fpgas f (IsPermutation-sym fpgas sorted moved), Contains-permutation fpgas sorted f moved);
+  same = λ f. (
+    Contains-permutation sorted fpgas f (IsPermutation-sym fpgas sorted moved),
+    Contains-permutation fpgas sorted f moved,
+  );
 }

@@ -19,7 +19,13 @@ root-small : (n : ℕ) → n ≤ 2 ^ 64 → root_of n ≤ 2 ^ 32
 root-small n small = go (cases_lt (2 ^ 32) (root_of n))
   where
     go : (2 ^ 32 < root_of n) ⊎ (root_of n ≤ 2 ^ 32) → root_of n ≤ 2 ^ 32
-    go (inl more) = absurd (omega (arith, root_of-square n, small, mul-le (2 ^ 32 + 1) (2 ^ 32 + 1) (root_of n) (root_of n) (omega (arith, more)) (omega (arith, more))))
+    go (inl more) = absurd (omega (
+      arith,
+      root_of-square n,
+      small,
+      mul-le (2 ^ 32 + 1) (2 ^ 32 + 1) (root_of n) (root_of n) (omega (arith, more))
+          (omega (arith, more)),
+    ))
     go (inr fine) = fine
 
 -- the roots of numbers that sum to one of 64 bits
@@ -27,25 +33,39 @@ pub sum_of_roots-le : (xs : List ℕ) → sum xs ≤ 2 ^ 64 → sum (map root_of
 sum_of_roots-le [] small = omega arith
 sum_of_roots-le (x ∷ xs) small =
     let whole : sum (x ∷ xs) ≡ x + sum xs = sum_by-cons (λ y. y) x xs in
-    let roots : sum (map root_of (x ∷ xs)) ≡ root_of x + sum (map root_of xs) = sum_by-cons (λ y. y) (root_of x) (map root_of xs) in
-    omega (arith, roots, root-small x (omega (arith, small, whole)), sum_of_roots-le xs (omega (arith, small, whole)))
+    let roots : sum (map root_of (x ∷ xs)) ≡ root_of x + sum (map root_of xs) =
+    sum_by-cons (λ y. y) (root_of x) (map root_of xs) in
+    omega (
+      arith,
+      roots,
+      root-small x (omega (arith, small, whole)),
+      sum_of_roots-le xs (omega (arith, small, whole)),
+    )
 
 -- spreads by the roots of the listed weights
-pub root_sum_is : (board : Board) (cert : Cert) (weights spreads : List ℕ) → AreNetWeights board cert weights → sum_below (length board.nets) (λ n. get_or (map root_of weights) n 0 * get_or spreads n 0) ≡ root_sum board cert (λ n. get_or spreads n 0)
+pub root_sum_is : (board : Board) (cert : Cert) (weights spreads : List ℕ) → AreNetWeights board cert weights
+    → sum_below (length board.nets) (λ n. get_or (map root_of weights) n 0 * get_or spreads n 0)
+    ≡ root_sum board cert (λ n. get_or spreads n 0)
 root_sum_is board cert weights spreads are =
     sum_below-agree (length board.nets) (λ n. get_or (map root_of weights) n 0 * get_or spreads n 0) _
     (λ n there. ap (λ (root : ℕ). root * get_or spreads n 0)
     (get_or-map root_of weights n 0 0 (omega (arith, are.whole)) ∙ ap root_of (are.each n there)))
 
 -- spreads by the listed weights
-pub weight_sum_is : (board : Board) (cert : Cert) (weights spreads : List ℕ) → AreNetWeights board cert weights → sum_below (length board.nets) (λ n. get_or weights n 0 * get_or spreads n 0) ≡ weight_sum board cert (λ n. get_or spreads n 0)
+pub weight_sum_is : (board : Board) (cert : Cert) (weights spreads : List ℕ)
+    → AreNetWeights board cert weights
+    → sum_below (length board.nets) (λ n. get_or weights n 0 * get_or spreads n 0)
+    ≡ weight_sum board cert (λ n. get_or spreads n 0)
 weight_sum_is board cert weights spreads are =
     sum_below-agree (length board.nets) (λ n. get_or weights n 0 * get_or spreads n 0) _
     (λ n there. ap (λ (weight : ℕ). weight * get_or spreads n 0) (are.each n there))
 
 -- the roots that were written over a list's numbers
-pub written_back : (numbers handed roots now : List ℕ) (size : ℕ) → handed ≡ numbers → roots ≡ map root_of handed → length handed ≡ size → now ≡ take size (roots ++ drop (length roots) numbers) → now ≡ map root_of numbers
+pub written_back : (numbers handed roots now : List ℕ) (size : ℕ) → handed ≡ numbers
+    → roots ≡ map root_of handed → length handed ≡ size
+    → now ≡ take size (roots ++ drop (length roots) numbers) → now ≡ map root_of numbers
 written_back numbers handed roots now size is_handed is_roots is_size is_now =
     is_now
-    ∙ (take_at roots (drop (length roots) numbers) size (ap length is_roots ∙ (length-map handed root_of ∙ is_size))
+    ∙ (take_at roots (drop (length roots) numbers) size (ap length is_roots
+    ∙ (length-map handed root_of ∙ is_size))
     ∙ (is_roots ∙ ap (map root_of) is_handed))

@@ -18,11 +18,18 @@ smallest_push_some [] y some = absurd (omega arith)
 smallest_push_some (x ∷ xs) y some = smallest_push x xs y
 
 -- the largest value of one place more
-pub largest_more : (f : ℕ → ℕ) (xs : List ℕ) (i : ℕ) → i < length xs → largest (map f (take (i + 1) xs)) ≡ max (largest (map f (take i xs))) (f (get_or xs i 0))
-largest_more f xs i inside = ap largest (map_more f xs i 0 inside) ∙ largest_push (map f (take i xs)) (f (get_or xs i 0))
+pub largest_more : (f : ℕ → ℕ) (xs : List ℕ) (i : ℕ) → i < length xs → largest (map f (take (i + 1) xs))
+    ≡ max (largest (map f (take i xs))) (f (get_or xs i 0))
+largest_more f xs i inside = ap largest (map_more f xs i 0 inside)
+    ∙ largest_push (map f (take i xs)) (f (get_or xs i 0))
 
 -- the smallest value of one place more, where there was one before
-pub smallest_more : (f : ℕ → ℕ) (xs : List ℕ) (i : ℕ) → 0 < i → i < length xs → smallest (map f (take (i + 1) xs)) ≡ min (smallest (map f (take i xs))) (f (get_or xs i 0))
+pub smallest_more : (f : ℕ → ℕ) (xs : List ℕ) (i : ℕ) → 0 < i → i < length xs
+    → smallest (map f (take (i + 1) xs)) ≡ min (smallest (map f (take i xs))) (f (get_or xs i 0))
 smallest_more f xs i some inside =
     ap smallest (map_more f xs i 0 inside)
-    ∙ smallest_push_some (map f (take i xs)) (f (get_or xs i 0)) (omega (arith, length-map (take i xs) f, length-take i xs))
+    ∙ smallest_push_some (map f (take i xs)) (f (get_or xs i 0)) (omega (
+      arith,
+      length-map (take i xs) f,
+      length-take i xs,
+    ))

@@ -64,7 +64,8 @@ pub record AreListed (lengths up down listed : List ℕ) : Type 0 where
   pub there : All (λ e. e < length lengths) listed
   pub up_short : (e : ℕ) → slice_index up e ≤ slice_index lengths e
   pub down_short : (e : ℕ) → slice_index down e ≤ slice_index lengths e
-  pub whole : (e : ℕ) → ((slice_index up e ≡ slice_index lengths e) × (slice_index down e ≡ slice_index lengths e))
+  pub whole : (e : ℕ) → ((slice_index up e ≡ slice_index lengths e)
+      × (slice_index down e ≡ slice_index lengths e))
       ⊎ Contains listed e
 
 -- wires that were listed are, and rests of others stay
@@ -73,7 +74,8 @@ StaysListed up down listed up' down' listed' =
     (lengths : List ℕ) → AreListed lengths up down listed → AreListed lengths up' down' listed'
 
 -- what grew so far, and what is still to grow
-pub record IsGrowing (board : Board) (root : ℕ) (growing : List ℕ) (start : Arcs) (i growth : ℕ) (rests : Arcs) (goals : List Bool) : Type 0 where
+pub record IsGrowing (board : Board) (root : ℕ) (growing : List ℕ) (start : Arcs) (i growth : ℕ)
+    (rests : Arcs) (goals : List Bool) : Type 0 where
   pub goals_are : AreGoals (root ∷ drop i growing) goals
   pub follows : (rest : ℕ) → GrowOver board root (drop i growing) rests rest
       → GrowOver board root growing start (growth + rest)

@@ -1,3 +1,4 @@
+-- The weight of each net, as a list.
 use Rattle.std.specs.Prelude.{◌≡◌, ℕ, ◌<◌, ◌≤◌, ◌^◌, List, length, slice_index, sum}
 use Rattle.tdm_problem.specs.Board.{Board}
 use Rattle.bound_cert.specs.Certificate.{Cert}

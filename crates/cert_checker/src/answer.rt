@@ -22,8 +22,8 @@ pub enum CheckAnswer {
     Rejected(Steep),
 }
 
-/// Checks a certificate for the problem: accepted with its bound exactly where it is valid, or rejected with the
-/// first potential and wire along which it is too steep. The only error is want of memory, and where the
+/// Checks a certificate for the problem: accepted with its bound exactly where it is valid, or rejected with
+/// the first potential and wire along which it is too steep. The only error is want of memory, and where the
 /// certificate is not valid it does not come.
 pub fn check(
     alloc: Global,

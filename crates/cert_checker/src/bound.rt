@@ -58,7 +58,8 @@ fn demand(problem: &Problem, cert: &Certificate, mut weights: Vec<u64>, spreads:
 fn weighted_sum(factors: &[u64], spreads: &[u128]) -> u128
     requires whole { length spreads.now ≡ length factors.now }
     requires small { (most : ℕ) × All (λ s. s ≤ most) spreads.now × (sum factors.now * most ≤ 2 ^ 124) }
-    ensures value { result ≡ sum_below (length factors.now) (λ n. slice_index factors.now n * slice_index spreads.now n) }
+    ensures value { result ≡ sum_below (length factors.now)
+        (λ n. slice_index factors.now n * slice_index spreads.now n) }
     ensures within { result ≤ 2 ^ 124 }
 {
     let mut total = 0;

@@ -15,9 +15,9 @@ use shortest_forest::{ArcLengths, MOST_CAP, NoBound, Search, nearest_goal};
 use std::alloc::{AllocError, Global};
 use std::marker::Model;
 
-/// Grows sets of FPGAs towards one another over the same lengths of wires, one set after another. It is made once, and
-/// its memory, which grows with the FPGAs and the wires, serves every set. A call takes time for what it searches alone,
-/// and allocates only where the queue of the search is longer than ever before.
+/// Grows sets of FPGAs towards one another over the same lengths of wires, one set after another. It is made
+/// once, and its memory, which grows with the FPGAs and the wires, serves every set. A call takes time for
+/// what it searches alone, and allocates only where the queue of the search is longer than ever before.
 #[derive(Drop)]
 pub struct Grower {
     search: Search,
@@ -39,7 +39,8 @@ impl Model for Grower {
     ghost view = { λ g. record { fpgas = length g.search.labels; lengths = g.lengths.items } };
 
     ghost invariant = { λ g. HasNoGoals g.search.goals × (length g.search.goals ≡ length g.search.labels)
-        × (g.up.items ≡ g.lengths.items) × (g.down.items ≡ g.lengths.items) × (g.worn.listed ≡ []) × (g.worn.limit ≡ length g.lengths.items)
+        × (g.up.items ≡ g.lengths.items) × (g.down.items ≡ g.lengths.items) × (g.worn.listed ≡ [])
+        × (g.worn.limit ≡ length g.lengths.items)
         × (g.near.limit ≡ length g.search.labels)
         × ((e : ℕ) → slice_index g.lengths.items e ≤ most_length) };
 }
@@ -70,17 +71,18 @@ impl Grower {
         })
     }
 
-    /// How far these FPGAs of the graph, all different, grow: the first is the root, and the others grow in order,
-    /// each until it reaches the root or one that is still to grow, over what those before it left of each wire in
-    /// each direction. 0 where wires do not join them all. The only error is want of memory; the grower may be used
-    /// again then too.
+    /// How far these FPGAs of the graph, all different, grow: the first is the root, and the others grow in
+    /// order, each until it reaches the root or one that is still to grow, over what those before it left of
+    /// each wire in each direction. 0 where wires do not join them all. The only error is want of memory; the
+    /// grower may be used again then too.
     pub fn growth(&mut self, graph: &BoardGraph, fpgas: &[u32]) -> Result<u128, AllocError>
         requires graph { self.old.fpgas ≡ graph.now.fpgas }
         requires lengths { length self.old.lengths ≡ length graph.now.wires }
         requires there { All (λ f. f < graph.now.fpgas) fpgas.now }
         requires distinct { AllPairs (λ x y. x ≢ y) fpgas.now }
         ensures same { self.new ≡ self.old }
-        ensures growth { IfOk result (IsGrowth (board_of graph.now) (slice_index self.old.lengths) fpgas.now) }
+        ensures growth { IfOk result (IsGrowth (board_of graph.now) (slice_index self.old.lengths)
+            fpgas.now) }
     {
         let Some((root, growing)) = fpgas.split_first() else {
             return Ok(0);
@@ -192,10 +194,12 @@ fn take_off(up: &mut Vec<u64>, down: &mut Vec<u64>, wire: u32, from: u32, to: u3
     requires up { wire < length up.old.items }
     requires down { wire < length down.old.items }
     requires differ { from ≢ to }
-    ensures taken { IsTakenOff wire from to fall (arcs_of up.old.items down.old.items) (arcs_of up.new.items down.new.items) }
+    ensures taken { IsTakenOff wire from to fall (arcs_of up.old.items down.old.items)
+        (arcs_of up.new.items down.new.items) }
     ensures up { length up.new.items ≡ length up.old.items }
     ensures down { length down.new.items ≡ length down.old.items }
-    ensures listed { (worn : List ℕ) → Contains worn wire → StaysListed up.old.items down.old.items worn up.new.items down.new.items worn }
+    ensures listed { (worn : List ℕ) → Contains worn wire
+        → StaysListed up.old.items down.old.items worn up.new.items down.new.items worn }
 {
     let e = wire as usize;
     if from < to {
@@ -205,8 +209,8 @@ fn take_off(up: &mut Vec<u64>, down: &mut Vec<u64>, wire: u32, from: u32, to: u3
     }
 }
 
-/// Takes a fall, where there is one, from what is left of a wire on the way from one of its ends to the other, and lists
-/// the wire.
+/// Takes a fall, where there is one, from what is left of a wire on the way from one of its ends to the
+/// other, and lists the wire.
 fn wear_wire(
     up: &mut Vec<u64>,
     down: &mut Vec<u64>,
@@ -220,11 +224,13 @@ fn wear_wire(
     requires down { wire < length down.old.items }
     requires limit { worn.old.limit ≡ length up.old.items }
     requires differ { from ≢ to }
-    ensures taken { OnOk result (IsTakenOff wire from to fall (arcs_of up.old.items down.old.items) (arcs_of up.new.items down.new.items)) }
+    ensures taken { OnOk result (IsTakenOff wire from to fall (arcs_of up.old.items down.old.items)
+        (arcs_of up.new.items down.new.items)) }
     ensures up { length up.new.items ≡ length up.old.items }
     ensures down { length down.new.items ≡ length down.old.items }
     ensures limit { worn.new.limit ≡ worn.old.limit }
-    ensures listed { StaysListed up.old.items down.old.items worn.old.listed up.new.items down.new.items worn.new.listed }
+    ensures listed { StaysListed up.old.items down.old.items worn.old.listed up.new.items down.new.items
+        worn.new.listed }
 {
     if fall == 0 {
         return Ok(());
@@ -248,8 +254,8 @@ fn list_near(near: &mut MarkedList, f: u32, height: u64) -> Result<(), AllocErro
     Ok(())
 }
 
-/// Takes the falls of the heights from what is left of the wires on the ways from FPGA `f`, and lists these wires and
-/// the FPGAs at their ends that have a height.
+/// Takes the falls of the heights from what is left of the wires on the ways from FPGA `f`, and lists these
+/// wires and the FPGAs at their ends that have a height.
 fn wear_at(
     search: &Search,
     graph: &BoardGraph,
@@ -275,7 +281,8 @@ fn wear_at(
     ensures worn_limit { worn.new.limit ≡ worn.old.limit }
     ensures up { length up.new.items ≡ length up.old.items }
     ensures down { length down.new.items ≡ length down.old.items }
-    ensures listed { StaysListed up.old.items down.old.items worn.old.listed up.new.items down.new.items worn.new.listed }
+    ensures listed { StaysListed up.old.items down.old.items worn.old.listed up.new.items down.new.items
+        worn.new.listed }
 {
     let here = height(search, reach, f);
     for x in graph.neighbours(f) {
@@ -287,8 +294,8 @@ fn wear_at(
     Ok(())
 }
 
-/// Takes the falls of the heights from what is left of all wires, after a search from FPGA `x`: wires lead from there over
-/// FPGAs that have a height to each of them, so no others are looked at.
+/// Takes the falls of the heights from what is left of all wires, after a search from FPGA `x`: wires lead
+/// from there over FPGAs that have a height to each of them, so no others are looked at.
 fn wear(
     search: &Search,
     graph: &BoardGraph,
@@ -302,7 +309,8 @@ fn wear(
     requires graph { IsGraph graph.now }
     requires there { x < graph.now.fpgas }
     requires labels { length search.now.labels ≡ graph.now.fpgas }
-    requires reached { HasReached (board_of graph.now) (arcs_of up.old.items down.old.items) x search.now reach }
+    requires reached { HasReached (board_of graph.now) (arcs_of up.old.items down.old.items) x search.now
+        reach }
     requires up { length up.old.items ≡ length graph.now.wires }
     requires down { length down.old.items ≡ length graph.now.wires }
     requires worn_limit { worn.old.limit ≡ length graph.now.wires }
@@ -313,7 +321,8 @@ fn wear(
     ensures worn_limit { worn.new.limit ≡ worn.old.limit }
     ensures up { length up.new.items ≡ length up.old.items }
     ensures down { length down.new.items ≡ length down.old.items }
-    ensures listed { StaysListed up.old.items down.old.items worn.old.listed up.new.items down.new.items worn.new.listed }
+    ensures listed { StaysListed up.old.items down.old.items worn.old.listed up.new.items down.new.items
+        worn.new.listed }
 {
     near.clear();
     near.add(x)?;
@@ -325,8 +334,8 @@ fn wear(
     Ok(())
 }
 
-/// Searches from FPGA `x` for the nearest goal over what is left of the wires, and answers how far that is; None where
-/// no wires lead to a goal.
+/// Searches from FPGA `x` for the nearest goal over what is left of the wires, and answers how far that is;
+/// None where no wires lead to a goal.
 fn reach_from(
     search: &mut Search,
     graph: &BoardGraph,
@@ -358,8 +367,9 @@ fn reach_from(
     Ok(search.distance(goal))
 }
 
-/// Grows FPGAs in order towards the root and those that are still to grow, which are the goals, and answers how far
-/// they grow together; 0 where wires do not join them all. What is left of the wires is then less on those listed.
+/// Grows FPGAs in order towards the root and those that are still to grow, which are the goals, and answers
+/// how far they grow together; 0 where wires do not join them all. What is left of the wires is then less on
+/// those listed.
 fn grow_all(
     search: &mut Search,
     graph: &BoardGraph,
@@ -385,13 +395,16 @@ fn grow_all(
     ensures labels { length search.new.labels ≡ length search.old.labels }
     ensures goals { length search.new.goals ≡ length search.old.goals }
     ensures among { (f : ℕ) → IsGoal search.new.goals f → Contains (root ∷ growing.now) f }
-    ensures growth { IfOk result (λ growth. (GrowOver (board_of graph.now) root growing.now (arcs_of up.old.items down.old.items) growth)
+    ensures growth { IfOk result
+        (λ growth. (GrowOver (board_of graph.now) root growing.now (arcs_of up.old.items down.old.items)
+        growth)
         ⊎ ((growth ≡ 0) × ¬ IsConnectable (board_of graph.now) (root ∷ growing.now))) }
     ensures up { length up.new.items ≡ length up.old.items }
     ensures down { length down.new.items ≡ length down.old.items }
     ensures worn_limit { worn.new.limit ≡ worn.old.limit }
     ensures near_limit { near.new.limit ≡ near.old.limit }
-    ensures listed { StaysListed up.old.items down.old.items worn.old.listed up.new.items down.new.items worn.new.listed }
+    ensures listed { StaysListed up.old.items down.old.items worn.old.listed up.new.items down.new.items
+        worn.new.listed }
 {
     let mut growth = 0;
     for i in 0..growing.len() {

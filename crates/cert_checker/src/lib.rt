@@ -1,5 +1,5 @@
-//! Checking certificates: whether their potentials are gentle enough, and what they bound the value of every legal
-//! solution by. Nothing here rests on how a certificate was made.
+//! Checking certificates: whether their potentials are gentle enough, and what they bound the value of every
+//! legal solution by. Nothing here rests on how a certificate was made.
 #![tactic(auto)]
 
 mod answer;

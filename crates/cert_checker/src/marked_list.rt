@@ -7,7 +7,8 @@ ghost use Rattle.cert_checker.specs.MarkedLists.{IsAdded};
 use std::alloc::{AllocError, Global};
 use std::marker::Model;
 
-/// A list of numbers below a limit, none of them twice. A mark for each number tells in one step whether it is listed.
+/// A list of numbers below a limit, none of them twice. A mark for each number tells in one step whether it
+/// is listed.
 #[derive(Drop)]
 pub(crate) struct MarkedList {
     marks: Vec<bool>,

@@ -12,9 +12,9 @@ use std::alloc::{AllocError, Global};
 use std::mem;
 use tdm_problem::Problem;
 
-/// How far each net of a board grows over wires of these lengths, at most 2^48 each: its FPGAs grow in rising order. A net
-/// of weight 0 has the number 0, and is not searched. Nets with the same FPGAs are searched once. The only error is want of
-/// memory.
+/// How far each net of a board grows over wires of these lengths, at most 2^48 each: its FPGAs grow in rising
+/// order. A net of weight 0 has the number 0, and is not searched. Nets with the same FPGAs are searched
+/// once. The only error is want of memory.
 pub fn growths(
     alloc: Global,
     problem: &Problem,
@@ -24,7 +24,8 @@ pub fn growths(
     requires lengths { length lengths.now ≡ length problem.now.wires }
     requires small { All (λ l. l ≤ most_length) lengths.now }
     requires weights { length weights.now ≡ length problem.now.nets }
-    ensures { IfOk result (λ growths. AreGrowths problem.now (slice_index lengths.now) weights.now growths.items) }
+    ensures { IfOk result (λ growths. AreGrowths problem.now (slice_index lengths.now) weights.now
+        growths.items) }
 {
     let graph = BoardGraph::of(alloc, problem)?;
     let mut grower = Grower::new(alloc, &graph, lengths)?;
@@ -58,7 +59,8 @@ fn marked_nets(
 ) -> Result<Vec<SetMark>, AllocError>
     requires { length weights.now ≡ length problem.now.nets }
     ensures weighed { IfOk result (λ marks. AreWeighed weights.now marks.items) }
-    ensures whole { IfOk result (λ marks. (n : ℕ) → n < length problem.now.nets → 0 < slice_index weights.now n → HasNet marks.items n) }
+    ensures whole { IfOk result (λ marks. (n : ℕ) → n < length problem.now.nets
+        → 0 < slice_index weights.now n → HasNet marks.items n) }
 {
     let mut marks = Vec::with_capacity(alloc, problem.nets() as usize)?;
     for n in 0..problem.nets() {
@@ -74,8 +76,8 @@ fn marked_nets(
     Ok(marks)
 }
 
-/// A number that is the same for the same FPGAs in any order: a sum of mixed numbers. Nothing but speed rests on it. The
-/// mixing is that of SplitMix64 (Steele, Lea and Flood, 2014).
+/// A number that is the same for the same FPGAs in any order: a sum of mixed numbers. Nothing but speed rests
+/// on it. The mixing is that of SplitMix64 (Steele, Lea and Flood, 2014).
 fn mark_of(fpgas: &[u32]) -> u64 {
     let mut sum: u64 = 0;
     for f in fpgas {
@@ -120,9 +122,11 @@ fn grow_set(
     requires lengths { length grower.old.lengths ≡ length graph.now.wires }
     requires there { All (λ f. f < graph.now.fpgas) fpgas.now }
     requires distinct { AllPairs (λ x y. x ≢ y) fpgas.now }
-    requires last { IsGrowth (board_of graph.now) (slice_index grower.old.lengths) last.old.fpgas.items last.old.growth }
+    requires last { IsGrowth (board_of graph.now) (slice_index grower.old.lengths) last.old.fpgas.items
+        last.old.growth }
     ensures grower { grower.new ≡ grower.old }
-    ensures grows { OnOk result (IsGrowth (board_of graph.now) (slice_index grower.old.lengths) last.new.fpgas.items last.new.growth) }
+    ensures grows { OnOk result (IsGrowth (board_of graph.now) (slice_index grower.old.lengths)
+        last.new.fpgas.items last.new.growth) }
     ensures rising { OnOk result (AreRising fpgas.now last.new.fpgas.items) }
 {
     put_rising(rising, fpgas)?;

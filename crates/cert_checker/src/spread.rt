@@ -12,8 +12,8 @@ use bound_cert::Certificate;
 use std::alloc::{AllocError, Global};
 use tdm_problem::Problem;
 
-/// How far each net is spread, nets in order: by its growth where nets of the certificate grow, and else by its choice.
-/// For nets without weight it may be any number. The only error is want of memory.
+/// How far each net is spread, nets in order: by its growth where nets of the certificate grow, and else by
+/// its choice. For nets without weight it may be any number. The only error is want of memory.
 pub(crate) fn spreads(
     alloc: Global,
     problem: &Problem,
@@ -48,7 +48,8 @@ fn chosen_spreads(
     Ok(spreads)
 }
 
-/// How far the values of the potential that net `n` chooses lie apart over its FPGAs; 0 where it chooses none.
+/// How far the values of the potential that net `n` chooses lie apart over its FPGAs; 0 where it chooses
+/// none.
 fn spread_of_net(problem: &Problem, cert: &Certificate, n: u32) -> u64
     requires is_for { IsCertFor problem.now cert.now }
     requires there { n < length problem.now.nets }

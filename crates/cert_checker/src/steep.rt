@@ -7,8 +7,8 @@ ghost use Rattle.cert_checker.specs.Steep.{IsLevel, IsFirstSteepWire, IsFirstSte
 use bound_cert::Certificate;
 use tdm_problem::{Problem, Wire};
 
-/// A potential and a wire along which it rises, one way or the other, by more than the wire's length. Both are
-/// named by their numbers from 0.
+/// A potential and a wire along which it rises, one way or the other, by more than the wire's length. Both
+/// are named by their numbers from 0.
 #[derive(Clone, Copy, Debug, PartialEq, Eq)]
 pub struct Steep {
     pub potential: u32,

@@ -18,10 +18,13 @@ HasRoom outputs (Unread slot) = Unit {0}
 HasRoom outputs NoMemory = Unit {0}
 
 -- what was decided is put out, or it is said which input could not be read, or nothing is
-abbrev pub Concludes : {D : Type 0} → (D → Counts) → (D → Type 0) → (D → Seen) → {S T : Type 0} → (T → Bytes) → Faults S → List Name → D → D → S → Decision S T → Type 0
-Concludes counts steady seen text faults outputs before after answer (Prepared prepared) = PutsOut counts steady seen faults outputs
+abbrev pub Concludes : {D : Type 0} → (D → Counts) → (D → Type 0) → (D → Seen) → {S T : Type 0} → (T → Bytes)
+    → Faults S → List Name → D → D → S → Decision S T → Type 0
+Concludes counts steady seen text faults outputs before after answer (Prepared prepared) =
+    PutsOut counts steady seen faults outputs
     (map text prepared.texts.items) prepared.report.items prepared.status before after answer
-Concludes counts steady seen text faults outputs before after answer (Unread slot) = PutsOut counts steady seen faults outputs
+Concludes counts steady seen text faults outputs before after answer (Unread slot) =
+    PutsOut counts steady seen faults outputs
     [] (read_fault_report (place slot)) faults.read_fault before after answer
 Concludes counts steady seen text faults outputs before after answer NoMemory =
     (answer ≡ faults.out_of_memory) × (after ≡ before)

@@ -12,7 +12,8 @@ use Rattle.command_run.specs.Slots.{place, KeepsInputsBut, KeepsOutputs, WasRead
 use Rattle.command_run.specs.Outcome.{Faults, Outcome, outcome_of, HasFailed}
 use Rattle.command_run.specs.Inputs.{Input, Content, Holds, HoldEach, TextKind, unread, FromInput}
 
--- no file changed, nothing was said, and of all slots only inputs behind the first place and up to the last were touched
+-- no file changed, nothing was said, and of all slots only inputs behind the first place and up to the last
+-- were touched
 pub record OnlyReads (first last : ℕ) (before after : Seen) : Type 0 where
   pub files : files_of after ≡ files_of before
   pub said : said_of after ≡ said_of before
@@ -20,7 +21,9 @@ pub record OnlyReads (first last : ℕ) (before after : Seen) : Type 0 where
   pub outputs : KeepsOutputs before after
 
 -- what the inputs hold calls for this outcome, for which they were read as far as it tells and no further
-pub record IsCalledFor {D S : Type 0} (counts : D → Counts) (steady : D → Type 0) (seen : D → Seen) (first : ℕ) (inputs : List Input) (Calls : List Content → Outcome S → Type 0) (outcome : Outcome S) (before after : D) : Type 0 where
+pub record IsCalledFor {D S : Type 0} (counts : D → Counts) (steady : D → Type 0) (seen : D
+    → Seen) (first : ℕ) (inputs : List Input) (Calls : List Content → Outcome S
+    → Type 0) (outcome : Outcome S) (before after : D) : Type 0 where
   pub contents : List Content
   pub held : HoldEach outcome.opened outcome.unread inputs contents (seen before) (seen after)
   pub called : Calls contents outcome
@@ -28,13 +31,16 @@ pub record IsCalledFor {D S : Type 0} (counts : D → Counts) (steady : D → Ty
   pub from : first ≤ outcome.opened
   pub reach : KeepsInputsBut first outcome.opened (seen before) (seen after)
 
-module _ {D : Type 0} (counts : D → Counts) (steady : D → Type 0) (seen : D → Seen) {S T : Type 0} (text : T → Bytes) (faults : Faults S) (first : ℕ) (inputs : List Input) (Calls : List Content → Outcome S → Type 0) (before after : D) where
+module _ {D : Type 0} (counts : D → Counts) (steady : D → Type 0) (seen : D → Seen) {S T : Type 0} (text : T
+    → Bytes) (faults : Faults S) (first : ℕ) (inputs : List Input) (Calls : List Content → Outcome S
+    → Type 0) (before after : D) where
   -- what each decision shows: no count rose but that of an input that could not be read, by one
   abbrev pub DecisionShows : Decision S T → Type 0
   DecisionShows (decision.Prepared prepared) = (opened : ℕ)
       × IsCalledFor counts steady seen first inputs Calls (outcome_of text opened prepared) before after
       × (counts after ≡ counts before)
-  DecisionShows (decision.Unread slot) = IsCalledFor counts steady seen first inputs Calls (unread faults slot) before after
+  DecisionShows (decision.Unread slot) =
+      IsCalledFor counts steady seen first inputs Calls (unread faults slot) before after
       × (counts after ≡ read_counted slot (counts before))
   DecisionShows decision.NoMemory = counts after ≡ counts before
 
@@ -44,7 +50,8 @@ module _ {D : Type 0} (counts : D → Counts) (steady : D → Type 0) (seen : D 
     pub only : OnlyReads first (first + length inputs) (seen before) (seen after)
     pub counted : CountsFaults counts steady before after
 
-module _ {D : Type 0} (counts : D → Counts) (seen : D → Seen) {S V R : Type 0} (kind : TextKind S V R) (input : Input) where
+module _ {D : Type 0} (counts : D → Counts) (seen : D → Seen) {S V R : Type 0} (kind : TextKind S V R)
+    (input : Input) where
   -- an input was read through, and says this value
   pub record Had (value : V) (before after : D) : Type 0 where
     pub bytes : Bytes
@@ -54,12 +61,15 @@ module _ {D : Type 0} (counts : D → Counts) (seen : D → Seen) {S V R : Type 
     pub only : OnlyReads (place input.slot - 1) (place input.slot) (seen before) (seen after)
     pub own : counts after ≡ counts before
 
-module _ {D : Type 0} (counts : D → Counts) (steady : D → Type 0) (seen : D → Seen) {S T : Type 0} (text : T → Bytes) (faults : Faults S) {V R : Type 0} (kind : TextKind S V R) (input : Input) (before after : D) where
+module _ {D : Type 0} (counts : D → Counts) (steady : D → Type 0) (seen : D → Seen) {S T : Type 0} (text : T
+    → Bytes) (faults : Faults S) {V R : Type 0} (kind : TextKind S V R) (input : Input)
+    (before after : D) where
   -- this input decides by itself, since it is missing or its text is refused
   pub record DecidesItself (prepared : Prepared S T) : Type 0 where
     pub content : Content
     pub held : Holds (place input.slot) None input content (seen before) (seen after)
-    pub called : FromInput faults input.slot kind content (λ value outcome. ⊥) (outcome_of text (place input.slot) prepared)
+    pub called : FromInput faults input.slot kind content (λ value outcome. ⊥)
+        (outcome_of text (place input.slot) prepared)
     pub own : counts after ≡ counts before
 
   -- what each decision that comes before the value is had shows

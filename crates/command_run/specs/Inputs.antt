@@ -1,5 +1,5 @@
 -- What the inputs of a command hold, and the outcome that one of them decides.
-use Rattle.std.specs.Prelude.{◌≡◌, ◌≤◌, ℕ, List, [], ◌∷◌, map, Option, Some, None, Result, Ok, Err}
+use Rattle.std.specs.Prelude.{◌≡◌, ◌≤◌, ◌^◌, ℕ, List, [], ◌∷◌, map, Option, Some, None, Result, Ok, Err}
 use Rattle.std.specs.Option.{ForSome}
 use Rattle.std.specs.FinMap.{get}
 use Rattle.tdm_desk.specs.declared.slots.InSlot.{InSlot}
@@ -8,6 +8,10 @@ use Rattle.tdm_desk.specs.Seen.{Seen, files_of}
 use Rattle.command_run.specs.Slots.{place, WasRead}
 use Rattle.command_run.specs.Reports.{no_input_report, read_fault_report}
 use Rattle.command_run.specs.Outcome.{Faults, Outcome}
+
+-- no limit on a text is above this many bytes
+abbrev pub most_text_bytes : ℕ
+most_text_bytes = 2 ^ 30
 
 -- an input of a command: its slot, the name of its file, and the most bytes that its text may have
 pub record Input : Type 0 where
@@ -30,12 +34,15 @@ content_of (Some bytes) = text bytes
 abbrev pub contents_in : Files → List Input → List Content
 contents_in files inputs = map (λ (input : Input). content_of (get files input.name)) inputs
 
--- where the desk tells its files, there is none of this name, or it holds this text; a text that was opened was read
+-- where the desk tells its files, there is none of this name, or it holds this text; a text that was opened
+-- was read
 -- through, and only the input that failed, if one, could not be read
 abbrev pub Holds : ℕ → Option InSlot → Input → Content → Seen → Seen → Type 0
-Holds opened failed input no_file before after = ForSome (files_of before) (λ files. get files input.name ≡ None)
+Holds opened failed input no_file before after =
+    ForSome (files_of before) (λ files. get files input.name ≡ None)
 Holds opened failed input unreadable before after = failed ≡ Some input.slot
-Holds opened failed input (text bytes) before after = ForSome (files_of before) (λ files. get files input.name ≡ Some bytes)
+Holds opened failed input (text bytes) before after =
+    ForSome (files_of before) (λ files. get files input.name ≡ Some bytes)
     × (place input.slot ≤ opened → WasRead input.slot input.limit input.name before after)
 
 -- the same of each input
@@ -88,7 +95,8 @@ module _ {S : Type 0} (faults : Faults S) (slot : InSlot) where
     FromText (Ok value) Then outcome = Then value outcome
     FromText (Err refusal) Then outcome = outcome ≡ refused refusal
 
-    -- an input decides where it is missing, cannot be read or is refused, and else what follows from what it says
+    -- an input decides where it is missing, cannot be read or is refused, and else what follows from what it
+    -- says
     abbrev pub FromInput : Content → (V → Outcome S → Type 0) → Outcome S → Type 0
     FromInput no_file Then outcome = outcome ≡ missing
     FromInput unreadable Then outcome = outcome ≡ unread

@@ -12,7 +12,8 @@ pub record Faults (S : Type 0) : Type 0 where
   pub write_fault : S
   pub out_of_memory : S
 
--- how many inputs were opened, the one that could not be read, if one, the status, the report, and the text of each output
+-- how many inputs were opened, the one that could not be read, if one, the status, the report, and the text
+-- of each output
 pub record Outcome (S : Type 0) : Type 0 where
   pub opened : ℕ
   pub unread : Option InSlot

@@ -13,7 +13,8 @@ with_files names [] files = files
 with_files [] (text ∷ texts) files = files
 with_files (name ∷ names) (text ∷ texts) files = with_files names texts (with_file name text files)
 
--- where the desk tells its bytes, the files of these names hold these texts, in order and as far as there are texts, each
+-- where the desk tells its bytes, the files of these names hold these texts, in order and as far as there are
+-- texts, each
 -- other file is as it was, and these bytes were said
 pub record Leaves (before after : Seen) (names : List Name) (texts : List Bytes) (more : Bytes) : Type 0 where
   pub files : files_of after ≡ option_map (with_files names texts) (files_of before)
@@ -45,14 +46,18 @@ abbrev pub IsBegun : (texts : List Bytes) (report : Bytes) (begun : List Bytes) 
 IsBegun texts report begun more = (AreBegun begun texts × (more ≡ []))
     ⊎ ((begun ≡ texts) × IsShortOf more report)
 
--- writing or saying failed and was counted once, or memory was wanting, after an input could not be read, if one
-abbrev pub IsStop : {D S : Type 0} (counts : D → Counts) (steady : D → Type 0) (faults : Faults S) (unread : Option InSlot) (before after : D) → S → Type 0
+-- writing or saying failed and was counted once, or memory was wanting, after an input could not be read, if
+-- one
+abbrev pub IsStop : {D S : Type 0} (counts : D → Counts) (steady : D → Type 0) (faults : Faults S)
+    (unread : Option InSlot) (before after : D) → S → Type 0
 IsStop counts steady faults unread before after answer =
     ((answer ≡ faults.write_fault) × WritingFailed counts steady before after
     × (counts after ≡ write_counted (with_unread unread (counts before))))
     ⊎ ((answer ≡ faults.out_of_memory) × (counts after ≡ with_unread unread (counts before)))
 
-module _ {D S : Type 0} (counts : D → Counts) (steady : D → Type 0) (seen : D → Seen) (faults : Faults S) (names : List Name) (texts : List Bytes) (report : Bytes) (status : S) (unread : Option InSlot) (before after : D) (answer : S) where
+module _ {D S : Type 0} (counts : D → Counts) (steady : D → Type 0) (seen : D → Seen) (faults : Faults S)
+    (names : List Name) (texts : List Bytes) (report : Bytes) (status : S) (unread : Option InSlot)
+    (before after : D) (answer : S) where
   -- all texts are written and finished, the report is said, the status stands, and no further count rose
   pub record IsPutOut : Type 0 where
     pub left : Leaves (seen before) (seen after) names texts report
@@ -68,7 +73,9 @@ module _ {D S : Type 0} (counts : D → Counts) (steady : D → Type 0) (seen : 
     pub left : Leaves (seen before) (seen after) names begun more
     pub cause : IsStop counts steady faults unread before after answer
 
-module _ {D S : Type 0} (counts : D → Counts) (steady : D → Type 0) (seen : D → Seen) (faults : Faults S) (names : List Name) (texts : List Bytes) (report : Bytes) (status : S) (before after : D) (answer : S) where
+module _ {D S : Type 0} (counts : D → Counts) (steady : D → Type 0) (seen : D → Seen) (faults : Faults S)
+    (names : List Name) (texts : List Bytes) (report : Bytes) (status : S) (before after : D)
+    (answer : S) where
   -- the texts are put out, and then the report is said; only outputs that have a text are touched
   pub record PutsOut : Type 0 where
     pub ends : IsPutOut counts steady seen faults names texts report status None before after answer

@@ -57,8 +57,10 @@ abbrev pub AreClosedFrom : (first last : ℕ) → Seen → Type 0
 AreClosedFrom first last after =
     (slot : OutSlot) → first < out_place slot → out_place slot ≤ last → IsFalse (output_is_open slot after)
 
--- this input is open, and where the desk tells its bytes, the file of this name was read to its end or to one byte past
+-- this input is open, and where the desk tells its bytes, the file of this name was read to its end or to one
+-- byte past
 -- the limit: it still gives what is behind that
 pub record WasRead (slot : InSlot) (limit : ℕ) (name : Name) (before after : Seen) : Type 0 where
   pub is_open : IsTrue (input_is_open slot after)
-  pub rest : rest_of slot after ≡ option_map (λ files. drop (limit + 1) (bytes_under name files)) (files_of before)
+  pub rest : rest_of slot after ≡ option_map (λ files. drop (limit + 1) (bytes_under name files))
+      (files_of before)

@@ -33,11 +33,12 @@ fn conclude_unread<D: Desk, S: RunStatus, T: OutputText>(
     )
 }
 
-/// Puts out what was decided: writes its texts to the outputs of these names in order, says its report, and answers its
-/// status; or says that an input could not be read.
+/// Puts out what was decided: writes its texts to the outputs of these names in order, says its report, and
+/// answers its status; or says that an input could not be read.
 ///
-/// A fault of writing or saying, or want of memory, is answered in place of the status, and nothing is done after it.
-/// First parts of the texts may be written then, or all of them and some of the report said, but not all.
+/// A fault of writing or saying, or want of memory, is answered in place of the status, and nothing is done
+/// after it. First parts of the texts may be written then, or all of them and some of the report said, but
+/// not all.
 pub fn conclude<D: Desk, S: RunStatus, T: OutputText>(
     alloc: Global,
     desk: &mut D,

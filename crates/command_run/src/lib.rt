@@ -1,8 +1,8 @@
-//! The run of a command: its inputs are read in order and come to an outcome, whose texts are written to the outputs
-//! in order, and whose report is said.
+//! The run of a command: its inputs are read in order and come to an outcome, whose texts are written to the
+//! outputs in order, and whose report is said.
 //!
-//! What the texts say, and what comes of them, is not known here: a command brings its readers of texts, its texts that
-//! can be written, and its statuses.
+//! What the texts say, and what comes of them, is not known here: a command brings its readers of texts, its
+//! texts that can be written, and its statuses.
 #![tactic(auto)]
 
 mod concluding;

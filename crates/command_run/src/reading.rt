@@ -134,11 +134,11 @@ fn early<S: RunStatus, T: OutputText>(
     }
 }
 
-/// Reads an input of a command, and answers what it says; or what it decides by itself, where it is missing, refused, or
-/// cannot be read.
+/// Reads an input of a command, and answers what it says; or what it decides by itself, where it is missing,
+/// refused, or cannot be read.
 ///
-/// The reader is one that was fed nothing. No file is changed and nothing is said. A fault of reading is decided as such,
-/// and want of memory as such; no call is tried again.
+/// The reader is one that was fed nothing. No file is changed and nothing is said. A fault of reading is
+/// decided as such, and want of memory as such; no call is tried again.
 pub fn read_input<D: Desk, T: OutputText, R: TextReader>(
     alloc: Global,
     desk: &mut D,

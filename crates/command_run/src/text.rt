@@ -1,8 +1,8 @@
 //! Texts that are read, and texts that are written.
-ghost use Rattle.std.specs.Prelude.{◌≡◌, ◌≤◌, ◌+◌, ◌^◌, ◌++◌, [], List, ℕ, Result, length, take, IfOk, IfErr, OnOk, OnErr, IsTrue, IsErrOf};
+ghost use Rattle.std.specs.Prelude.{◌≡◌, ◌≤◌, ◌+◌, ◌++◌, [], List, ℕ, Result, length, take, IfOk, IfErr, OnOk, OnErr, IsTrue, IsErrOf};
 ghost use Rattle.tdm_desk.specs.Seen.{output_is_open, written, PrefixWritten};
 ghost use Rattle.tdm_desk.specs.Counts.{CountsFaults, CountsOnlyWriting, WritingFailed};
-ghost use Rattle.command_run.specs.Inputs.{TextKind};
+ghost use Rattle.command_run.specs.Inputs.{TextKind, most_text_bytes};
 ghost use Rattle.command_run.specs.Faulty.{IsFaultOf};
 
 use crate::status::RunStatus;
@@ -44,10 +44,10 @@ pub trait TextReader: Drop {
     /// The most bytes that a text may have. One that is longer is refused, whatever is behind one byte more.
     fn limit(&self) -> u64
         ensures same { result ≡ limit self.now }
-        ensures small { result ≤ 2 ^ 30 };
+        ensures small { result ≤ most_text_bytes };
 
-    /// A text that is longer than the limit is refused, and cut one byte past the limit it says what the whole says.
-    /// Nothing is done.
+    /// A text that is longer than the limit is refused, and cut one byte past the limit it says what the
+    /// whole says. Nothing is done.
     fn cut(&self)
         ensures same { (text : List ℕ) → (kind self.now).says (take (limit self.now + 1) text)
             ≡ (kind self.now).says text }
@@ -57,14 +57,16 @@ pub trait TextReader: Drop {
     /// Takes the next bytes of the text. After want of memory it may not be fed again.
     fn feed(&mut self, piece: &[u8]) -> Result<(), AllocError>
         requires { fed self.old + length piece.now ≤ limit self.old + 1 }
-        ensures at { OnOk result ((text : List ℕ) → is_at self.old text → is_at self.new (text ++ piece.now)) }
+        ensures at { OnOk result ((text : List ℕ) → is_at self.old text
+            → is_at self.new (text ++ piece.now)) }
         ensures fed { OnOk result (fed self.new ≡ fed self.old + length piece.now) }
         ensures kind { kind self.new ≡ kind self.old }
         ensures limit { limit self.new ≡ limit self.old };
 
     /// What the text that it was fed says.
     fn end(self) -> Result<Self::Value, TextFault<Self::Refusal>>
-        ensures ok { IfOk result (λ value. (text : List ℕ) → is_at self text → (kind self).says text ≡ Ok value) }
+        ensures ok { IfOk result (λ value. (text : List ℕ) → is_at self text
+            → (kind self).says text ≡ Ok value) }
         ensures fault { IfErr result (λ fault. (text : List ℕ) → is_at self text
             → IsFaultOf ((kind self).says text) fault) };
 
@@ -82,8 +84,8 @@ pub trait OutputText: Drop {
     // its bytes
     ghost text: { Self → List ℕ };
 
-    /// Adds the text to the file of an open output. After a fault a first part of it was added, and the slot stays open.
-    /// A fault of the desk is answered as it came, and no call is tried again.
+    /// Adds the text to the file of an open output. After a fault a first part of it was added, and the slot
+    /// stays open. A fault of the desk is answered as it came, and no call is tried again.
     fn write<D: Desk>(&self, desk: &mut D, slot: OutSlot) -> Result<(), DeskFault>
         requires { IsTrue (output_is_open slot (D.seen desk.old)) }
         ensures ok { OnOk result (D.seen desk.new ≡ written slot (text self.now) (D.seen desk.old)) }

@@ -21,15 +21,18 @@ fn output(place: usize) -> OutSlot
     }
 }
 
-/// Makes the file of this name hold the text. After a fault it is as it was, or holds a first part of the text.
+/// Makes the file of this name hold the text. After a fault it is as it was, or holds a first part of the
+/// text.
 fn write_file<D: Desk, T: OutputText>(
     desk: &mut D,
     slot: OutSlot,
     name: &str,
     text: &T,
 ) -> Result<(), DeskFault>
-    ensures ok { OnOk result (Leaves (D.seen desk.old) (D.seen desk.new) (name.now ∷ []) (T.text text.now ∷ []) []) }
-    ensures err { OnErr result (LeavesBegun (D.seen desk.old) (D.seen desk.new) (name.now ∷ []) (T.text text.now ∷ [])) }
+    ensures ok { OnOk result (Leaves (D.seen desk.old) (D.seen desk.new) (name.now ∷ [])
+        (T.text text.now ∷ []) []) }
+    ensures err { OnErr result (LeavesBegun (D.seen desk.old) (D.seen desk.new) (name.now ∷ [])
+        (T.text text.now ∷ [])) }
     ensures only { OnlyWrites (out_place slot - 1) (out_place slot) (D.seen desk.old) (D.seen desk.new) }
     ensures closed { OnOk result (IsFalse (output_is_open slot (D.seen desk.new))) }
     ensures failed { IsErrOf result DeskFault.Failed →
@@ -48,8 +51,8 @@ fn write_file<D: Desk, T: OutputText>(
 
 /// Writes the texts to the files of these names in order, to the outputs behind the first so many.
 ///
-/// After a fault the texts before some are written whole, the file of that one is as it was or holds a first part of its
-/// text, and the others are as they were.
+/// After a fault the texts before some are written whole, the file of that one is as it was or holds a first
+/// part of its text, and the others are as they were.
 fn write_files<D: Desk, T: OutputText>(
     desk: &mut D,
     done: usize,
@@ -78,7 +81,8 @@ fn write_files<D: Desk, T: OutputText>(
     write_files(desk, done + 1, &names[1..], &texts[1..])
 }
 
-/// Writes the texts to the files of these names in order, then says the report, and answers the status, or how that failed.
+/// Writes the texts to the files of these names in order, then says the report, and answers the status, or
+/// how that failed.
 pub(crate) fn put_out<D: Desk, S: RunStatus, T: OutputText>(
     desk: &mut D,
     names: &[String],

@@ -10,14 +10,21 @@ abbrev pub HaveNumbers : List Line → Type 0
 HaveNumbers [] = Unit {0}
 HaveNumbers (line ∷ later) = (line.fault ≡ None → 0 < length line.numbers) × HaveNumbers later
 
-some_numbers : (fault : Option TokenFault) (t : List ℕ) (ts : List (List ℕ)) → fault ≡ None → 0 < length (cond (is_some fault) [] (value t ∷ map value ts))
+some_numbers : (fault : Option TokenFault) (t : List ℕ) (ts : List (List ℕ)) → fault ≡ None
+    → 0 < length (cond (is_some fault) [] (value t ∷ map value ts))
 some_numbers None t ts none = omega arith
 some_numbers (Some f) t ts none = absurd (cc)
 
-HaveNumbers-put_line : (max n : ℕ) (toks : List (List ℕ)) (later : List Line) → HaveNumbers later → HaveNumbers (put_line max n toks later)
+HaveNumbers-put_line : (max n : ℕ) (toks : List (List ℕ)) (later : List Line) → HaveNumbers later
+    → HaveNumbers (put_line max n toks later)
 HaveNumbers-put_line max n [] later have = have
-HaveNumbers-put_line max n (t ∷ ts) later have = (λ none. some_numbers (fault_of max (t ∷ ts)) t ts none, have)
+HaveNumbers-put_line max n (t ∷ ts) later have = (
+  λ none. some_numbers (fault_of max (t ∷ ts)) t ts none,
+  have,
+)
 
 pub HaveNumbers-lines_from : (max n : ℕ) (pieces : List (List ℕ)) → HaveNumbers (lines_from max n pieces)
 HaveNumbers-lines_from max n [] = tt
-HaveNumbers-lines_from max n (piece ∷ more) = HaveNumbers-put_line max n (tokens piece) (lines_from max (n + 1) more) (HaveNumbers-lines_from max (n + 1) more)
+HaveNumbers-lines_from max n (piece ∷ more) =
+    HaveNumbers-put_line max n (tokens piece) (lines_from max (n + 1) more)
+    (HaveNumbers-lines_from max (n + 1) more)

@@ -43,17 +43,26 @@ module _ (board : Board) where
     stopped_at_nets after fault = prefix_first slot to_nets groups_text before after fault
 
     stopped_at_wires : (after : Seen) → Stopped to_wires after → Stopped (board_text board) after
-    stopped_at_wires after fault = stopped_at_nets after (prefix_first slot to_wires nets_text before after fault)
+    stopped_at_wires after fault =
+        stopped_at_nets after (prefix_first slot to_wires nets_text before after fault)
 
     pub stopped_at_header : (after : Seen) → Stopped to_header after → Stopped (board_text board) after
-    stopped_at_header after fault = stopped_at_wires after (prefix_first slot to_header wires_text before after fault)
+    stopped_at_header after fault =
+        stopped_at_wires after (prefix_first slot to_header wires_text before after fault)
 
     module _ (pending : Bytes) (between after : Seen) where
-      pub stopped_in_wires : Way to_header pending between → PrefixWritten slot (pending ++ wires_text) between after → Stopped (board_text board) after
-      stopped_in_wires way fault = stopped_at_wires after (prefix_later slot to_header before pending between wires_text after way fault)
+      pub stopped_in_wires : Way to_header pending between
+          → PrefixWritten slot (pending ++ wires_text) between after → Stopped (board_text board) after
+      stopped_in_wires way fault =
+          stopped_at_wires after (prefix_later slot to_header before pending between wires_text after way
+          fault)
 
-      pub stopped_in_nets : Way to_wires pending between → PrefixWritten slot (pending ++ nets_text) between after → Stopped (board_text board) after
-      stopped_in_nets way fault = stopped_at_nets after (prefix_later slot to_wires before pending between nets_text after way fault)
+      pub stopped_in_nets : Way to_wires pending between
+          → PrefixWritten slot (pending ++ nets_text) between after → Stopped (board_text board) after
+      stopped_in_nets way fault =
+          stopped_at_nets after (prefix_later slot to_wires before pending between nets_text after way fault)
 
-      pub stopped_in_groups : Way to_nets pending between → PrefixWritten slot (pending ++ groups_text) between after → Stopped (board_text board) after
-      stopped_in_groups way fault = prefix_later slot to_nets before pending between groups_text after way fault
+      pub stopped_in_groups : Way to_nets pending between
+          → PrefixWritten slot (pending ++ groups_text) between after → Stopped (board_text board) after
+      stopped_in_groups way fault = prefix_later slot to_nets before pending between groups_text after way
+          fault

@@ -38,7 +38,8 @@ abbrev pub refused_at : ℕ → Option BoardKind → Option BoardRefusal
 refused_at n None = None
 refused_at n (Some kind) = Some (record { kind = kind; line = n })
 
--- the lines of one role, each judged: by its tokens, then by its numbers and by how many numbers it and the earlier ones have
+-- the lines of one role, each judged: by its tokens, then by its numbers and by how many numbers it and the
+-- earlier ones have
 abbrev pub judged : (ℕ → List ℕ → Option BoardKind) → ℕ → List Line → List (Option BoardRefusal)
 judged fault earlier [] = []
 judged fault earlier (line ∷ later) =

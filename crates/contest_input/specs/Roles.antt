@@ -1,4 +1,5 @@
--- Where a board text stands: what its lines so far have said, and what the lines that still come make of that.
+-- Where a board text stands: what its lines so far have said, and what the lines that still come make of
+-- that.
 use Rattle.std.specs.Prelude.{◌≡◌, ℕ, zero, suc, ◌+◌, ◌^◌, ◌<◌, ◌≤◌, List, [], ◌∷◌, ◌++◌, map, take, drop, length, sum_by, nat_le, Option, None, Some, Result, Ok, Err}
 use Rattle.std.specs.List.{list_any}
 use Rattle.tdm_lines.specs.Lines.{Line}
@@ -25,12 +26,16 @@ stop fault end earlier zero lines = None
 stop fault end earlier (suc left) [] = Some (record { kind = MissingLine; line = end })
 stop fault end earlier (suc left) (line ∷ later) =
     let listed = earlier + length line.numbers in
-    or_else (refused_at line.number (tokens_first line.fault (fault listed line.numbers))) (stop fault end listed left later)
+    or_else (refused_at line.number (tokens_first line.fault (fault listed line.numbers)))
+    (stop fault end listed left later)
 
 -- what is said of the lines from within a section on, whose lines give rows, by what is said once it is read
-abbrev pub in_section : {R : Type 0} → (ℕ → List ℕ → Option BoardKind) → (List ℕ → R) → (List R → List Line → Result Board BoardRefusal) → ℕ → ℕ → ℕ → List R → List Line → Result Board BoardRefusal
+abbrev pub in_section : {R : Type 0} → (ℕ → List ℕ → Option BoardKind) → (List ℕ → R)
+    → (List R → List Line → Result Board BoardRefusal) → ℕ → ℕ → ℕ → List R → List Line
+    → Result Board BoardRefusal
 in_section fault row next end left listed rows lines =
-    unless (stop fault end listed left lines) (next (rows ++ map (λ line. row line.numbers) (take left lines)) (drop left lines))
+    unless (stop fault end listed left lines) (next (rows ++ map (λ line. row line.numbers) (take left lines))
+    (drop left lines))
 
 -- past the last line
 abbrev pub at_end : Board → List Line → Result Board BoardRefusal
@@ -39,19 +44,24 @@ at_end board lines = unless (first_refusal (map extra_refusal lines)) (Ok board)
 -- from a group line on
 abbrev pub in_groups : Sizes → Board → ℕ → ℕ → ℕ → List Line → Result Board BoardRefusal
 in_groups sizes board left listed end lines =
-    in_section (group_fault sizes.nets) without_repeats (λ rows. at_end (record board { groups = rows })) end left listed board.groups lines
+    in_section (group_fault sizes.nets) without_repeats (λ rows. at_end (record board { groups = rows })) end
+    left listed board.groups lines
 
 -- from a net line on
 abbrev pub in_nets : Sizes → Board → ℕ → ℕ → ℕ → List Line → Result Board BoardRefusal
 in_nets sizes board left listed end lines =
-    in_section (net_fault sizes.fpgas) without_repeats (λ rows. in_groups sizes (record board { nets = rows }) sizes.groups 0 end) end left listed board.nets lines
+    in_section (net_fault sizes.fpgas) without_repeats
+    (λ rows. in_groups sizes (record board { nets = rows }) sizes.groups 0 end) end left listed board.nets
+    lines
 
 -- from a wire line on
 abbrev pub in_wires : Sizes → Board → ℕ → ℕ → List Line → Result Board BoardRefusal
 in_wires sizes board left end lines =
-    in_section (λ _. wire_fault sizes.fpgas) wire_of (λ rows. in_nets sizes (record board { wires = rows }) sizes.nets 0 end) end left 0 board.wires lines
+    in_section (λ _. wire_fault sizes.fpgas) wire_of
+    (λ rows. in_nets sizes (record board { wires = rows }) sizes.nets 0 end) end left 0 board.wires lines
 
--- what the text says whose lines so far made this state, where these lines are still to come and it ends in line `end`
+-- what the text says whose lines so far made this state, where these lines are still to come and it ends in
+-- line `end`
 abbrev pub said_in : Role → Sizes → Board → ℕ → ℕ → ℕ → List Line → Result Board BoardRefusal
 said_in role.Header sizes board left listed end lines = board_of_lines end lines
 said_in role.Wire sizes board left listed end lines = in_wires sizes board left end lines
@@ -62,7 +72,8 @@ said_in (role.Refused refusal) sizes board left listed end lines = Err refusal
 
 -- the lines so far made this state: whatever comes, the text says what the state says of that
 abbrev pub Reads : BoardState → List Line → Type 0
-Reads state done = (end : ℕ) (more : List Line) → board_of_lines end (done ++ more) ≡ said_in state.role state.sizes state.draft state.left state.listed end more
+Reads state done = (end : ℕ) (more : List Line) → board_of_lines end (done ++ more)
+    ≡ said_in state.role state.sizes state.draft state.left state.listed end more
 
 -- one number more than a line without fault can have
 abbrev pub room_of : Role → ℕ
@@ -73,7 +84,8 @@ room_of role.Group = most_listed_nets + 1
 room_of role.End = 1
 room_of (role.Refused refusal) = 1
 
--- what is kept of a line with these numbers: all of them where they are fewer than there is room for, and else as many as there
+-- what is kept of a line with these numbers: all of them where they are fewer than there is room for, and
+-- else as many as there
 -- is room for, with one that is too large where the line has one
 pub record IsKeptOf (room : ℕ) (kept numbers : List ℕ) : Type 0 where
   pub short : length numbers < room → kept ≡ numbers
@@ -88,8 +100,10 @@ Holds state numbers = IsKeptOf (room_of state.role) state.numbers.items numbers
 abbrev pub line_kind : Role → Sizes → ℕ → Line → Option BoardKind
 line_kind role.Header sizes listed line = tokens_first line.fault (header_fault line.numbers)
 line_kind role.Wire sizes listed line = tokens_first line.fault (wire_fault sizes.fpgas line.numbers)
-line_kind role.Net sizes listed line = tokens_first line.fault (net_fault sizes.fpgas (listed + length line.numbers) line.numbers)
-line_kind role.Group sizes listed line = tokens_first line.fault (group_fault sizes.nets (listed + length line.numbers) line.numbers)
+line_kind role.Net sizes listed line =
+    tokens_first line.fault (net_fault sizes.fpgas (listed + length line.numbers) line.numbers)
+line_kind role.Group sizes listed line =
+    tokens_first line.fault (group_fault sizes.nets (listed + length line.numbers) line.numbers)
 line_kind role.End sizes listed line = Some ExtraLine
 line_kind (role.Refused refusal) sizes listed line = None
 

@@ -57,7 +57,8 @@ fn the_first_fault_decides()
     ensures later { board_of (codes "2 1 1 1\n0 1\n0 x") ≡ Err (record { kind = BadNumber; line = 3 }) }
 {}
 
-/// Counts and totals at their limits are no fault, and one more is; of two faults of a line the first in order is told.
+/// Counts and totals at their limits are no fault, and one more is; of two faults of a line the first in
+/// order is told.
 fn limits_are_exact()
     ensures at_all { header_fault (4096 ∷ 65536 ∷ 1048576 ∷ 1048576 ∷ []) ≡ None }
     ensures wires { header_fault (0 ∷ 65537 ∷ 0 ∷ 0 ∷ []) ≡ Some CountLimit }

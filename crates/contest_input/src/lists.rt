@@ -23,7 +23,8 @@ pub(crate) struct Listing {
 
 /// What net lines list on a board with so many FPGAs.
 pub(crate) fn net_listing(fpgas: u32) -> Listing
-    ensures { (listed : ℕ) (numbers : List ℕ) → list_fault result listed numbers ≡ net_fault fpgas listed numbers }
+    ensures { (listed : ℕ) (numbers : List ℕ) → list_fault result listed numbers
+        ≡ net_fault fpgas listed numbers }
 {
     Listing {
         unknown: BoardKind::UnknownFpga,
@@ -34,7 +35,8 @@ pub(crate) fn net_listing(fpgas: u32) -> Listing
 
 /// What group lines list on a board with so many nets.
 pub(crate) fn group_listing(nets: u32) -> Listing
-    ensures { (listed : ℕ) (numbers : List ℕ) → list_fault result listed numbers ≡ group_fault nets listed numbers }
+    ensures { (listed : ℕ) (numbers : List ℕ) → list_fault result listed numbers
+        ≡ group_fault nets listed numbers }
 {
     Listing {
         unknown: BoardKind::UnknownNet,
@@ -71,8 +73,8 @@ pub(crate) fn list_fault(listing: Listing, listed: u64, numbers: &[u64]) -> Opti
     None
 }
 
-/// Keeps one number more of a line. Of a line with as many numbers as there is room for, or more, the last that is kept
-/// is the largest of those that came since the room was full.
+/// Keeps one number more of a line. Of a line with as many numbers as there is room for, or more, the last
+/// that is kept is the largest of those that came since the room was full.
 pub(crate) fn keep(numbers: &mut Vec<u64>, room: usize, number: u64) -> Result<(), AllocError>
     requires { 0 < room }
     ensures { OnOk result ((whole : List ℕ) → IsKeptOf room numbers.old.items whole

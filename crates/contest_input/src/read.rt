@@ -8,11 +8,13 @@ use crate::reader::BoardReader;
 use std::alloc::Global;
 use tdm_problem::Problem;
 
-/// Reads a board text of at most 2^28 + 1 bytes; a longer one may be cut there, since it is refused all the same.
+/// Reads a board text of at most 2^28 + 1 bytes; a longer one may be cut there, since it is refused all the
+/// same.
 ///
-/// The text's lines are a header with the numbers of FPGAs, wires, nets and groups, then a line for each wire with
-/// its two FPGAs, one for each net with its FPGAs, the source first, and one for each group with its nets. All things
-/// are numbered from 0. A number that a net or a group lists again counts once, in its first place.
+/// The text's lines are a header with the numbers of FPGAs, wires, nets and groups, then a line for each wire
+/// with its two FPGAs, one for each net with its FPGAs, the source first, and one for each group with its
+/// nets. All things are numbered from 0. A number that a net or a group lists again counts once, in its first
+/// place.
 ///
 /// Refused where the text is none of this, for the first line at fault and the first fault of that line.
 /// NoMemory where memory is wanting.

@@ -178,7 +178,8 @@ impl BoardState {
         requires { header_fault self.old.numbers.items ≡ None }
         ensures fine { IsFine self.new }
         ensures numbers { self.new.numbers ≡ self.old.numbers }
-        ensures said { (n end : ℕ) (more : List Line) → board_of_lines end (plain_line n self.old.numbers.items ∷ more)
+        ensures said { (n end : ℕ) (more : List Line)
+            → board_of_lines end (plain_line n self.old.numbers.items ∷ more)
             ≡ said_in self.new.role self.new.sizes self.new.draft self.new.left self.new.listed end more }
     {
         let sizes = sizes_of(&self.numbers);
@@ -195,7 +196,8 @@ impl BoardState {
         requires clean { wire_fault self.old.sizes.fpgas self.old.numbers.items ≡ None }
         ensures fine { OnOk result (IsFine self.new) }
         ensures said { OnOk result ((n end : ℕ) (more : List Line)
-            → in_wires self.old.sizes self.old.draft self.old.left end (plain_line n self.old.numbers.items ∷ more)
+            → in_wires self.old.sizes self.old.draft self.old.left end (plain_line n self.old.numbers.items
+            ∷ more)
             ≡ said_in self.new.role self.new.sizes self.new.draft self.new.left self.new.listed end more) }
     {
         let wire = wire_of(self.sizes.fpgas, &self.numbers);

@@ -23,7 +23,8 @@ fn refusal(rt: &impl Abort, alloc: Global, text: &[u8]) -> Option<BoardRefusal> 
     }
 }
 
-/// Checks that this is a board of two FPGAs with one wire between them, one net on both, and one group of that net.
+/// Checks that this is a board of two FPGAs with one wire between them, one net on both, and one group of
+/// that net.
 fn assert_pair(rt: &impl Abort, problem: &Problem) {
     assert_eq!(rt; problem.fpgas(), 2);
     assert_eq!(rt; problem.wires(), 1);

@@ -13,10 +13,10 @@ use tdm_desk::{Desk, DeskFault, OutSlot};
 use tdm_problem::{Problem, Wire};
 use text_writer::{Pending, flush, put_line, put_number};
 
-/// Adds the text of a board to the file of an open output: a header with the numbers of FPGAs, wires, nets and groups,
-/// then a line for each wire with its two FPGAs, for each net with its FPGAs, and for each group with its nets. Numbers
-/// are decimal without leading zeros, with one space between them. [`read_board`](crate::read_board) reads the same board
-/// from the text.
+/// Adds the text of a board to the file of an open output: a header with the numbers of FPGAs, wires, nets
+/// and groups, then a line for each wire with its two FPGAs, for each net with its FPGAs, and for each group
+/// with its nets. Numbers are decimal without leading zeros, with one space between them.
+/// [`read_board`](crate::read_board) reads the same board from the text.
 ///
 /// It takes no memory of its own. After a fault a prefix of the text was added, and the slot stays open.
 pub fn write_board<D: Desk>(desk: &mut D, slot: OutSlot, problem: &Problem) -> Result<(), DeskFault>

@@ -12,11 +12,15 @@ use Rattle.tdm_problem.proofs.Fits.{product-positive, reciprocals-equal, FitsLan
 use Rattle.even_legalise.specs.Uniform.{uniform_ratio}
 
 -- equal ratios that fit are no more than the ratio times the lanes
-few-of_fit : (r lanes : ℕ) (ratios : List ℕ) → 0 < r → All (λ x. x ≡ r) ratios → FitsLanes ratios lanes → length ratios ≤ lanes * r
+few-of_fit : (r lanes : ℕ) (ratios : List ℕ) → 0 < r → All (λ x. x ≡ r) ratios → FitsLanes ratios lanes
+    → length ratios ≤ lanes * r
 few-of_fit r lanes ratios positive all fits =
-    let whole : 0 < product ratios = product-positive ratios (All-weaker (λ x. x ≡ r) (λ x. 0 < x) (λ x is. omega (arith, is, positive)) ratios all) in
+    let whole : 0 < product ratios =
+    product-positive ratios (All-weaker (λ x. x ≡ r) (λ x. 0 < x) (λ x is. omega (arith, is, positive))
+    ratios all) in
     let scaled : reciprocals ratios * r ≤ lanes * product ratios * r = mul-le-mul_right r fits in
-    let sides : length ratios * product ratios ≤ lanes * r * product ratios = omega (arith, reciprocals-equal r ratios all, scaled) in
+    let sides : length ratios * product ratios ≤ lanes * r * product ratios =
+    omega (arith, reciprocals-equal r ratios all, scaled) in
     le_of_mul-le-mul_right sides whole
 
 -- copies of a positive ratio fit exactly where there are no more of them than the ratio times the lanes
@@ -51,15 +55,19 @@ raised-least q half less =
 
 -- a number is at most itself raised to an even number
 raised-within : (q : ℕ) → q ≤ 2 * div_ceil q 2
-raised-within q = let within : q ≤ div_ceil q 2 * 2 = (div_ceil_times q 2 (omega arith)).0 in omega (arith, within)
+raised-within q = let within : q ≤ div_ceil q 2 * 2 = (div_ceil_times q 2 (omega arith)).0 in
+    omega (arith, within)
 
 -- nets with an even ratio fit exactly where it is no less than the uniform ratio
-pub uniform-least : (nets lanes ratio : ℕ) → 0 < lanes → IsEvenRatio ratio → FitsLanes (replicate nets ratio) lanes ↔ (uniform_ratio nets lanes ≤ ratio)
+pub uniform-least : (nets lanes ratio : ℕ) → 0 < lanes → IsEvenRatio ratio
+    → FitsLanes (replicate nets ratio) lanes ↔ (uniform_ratio nets lanes ≤ ratio)
 uniform-least nets lanes ratio there even =
     let positive : 0 < ratio = omega (arith, even.1, even.2) in
     let fit = replicate-fits nets ratio lanes positive in (
       λ fits.
-          let lane : div_ceil nets lanes ≤ 2 * even.0 = omega (arith, nets_of_lane-few nets lanes ratio there (fit.0 fits), even.2) in
+          let lane : div_ceil nets lanes ≤ 2 * even.0 =
+          omega (arith, nets_of_lane-few nets lanes ratio there (fit.0 fits), even.2) in
           omega (arith, raised-least (div_ceil nets lanes) even.0 lane, even.2),
-      λ least. fit.1 (few-nets_of_lane nets lanes ratio there (omega (arith, raised-within (div_ceil nets lanes), least))),
+      λ least. fit.1 (few-nets_of_lane nets lanes ratio there
+          (omega (arith, raised-within (div_ceil nets lanes), least))),
     )

@@ -8,7 +8,8 @@ use Rattle.tdm_problem.specs.Routing.{Routing}
 use Rattle.tdm_problem.specs.Legal.{lanes_of, IsEvenRatio}
 use Rattle.ratio_shares.specs.Shares.{share_in}
 
--- the even ratio for a share, where a lane has 2^64 units: twice as often as the share goes into half a lane, rounded up
+-- the even ratio for a share, where a lane has 2^64 units: twice as often as the share goes into half a lane,
+-- rounded up
 abbrev pub even_ratio : (share : ℕ) → ℕ
 even_ratio share = 2 * div_ceil (2 ^ 63) share
 
@@ -25,13 +26,15 @@ numbers_on (wires ∷ trees) [] e = []
 numbers_on (wires ∷ trees) (number ∷ numbers) e =
     map (λ d. number) (filter (λ d. d == e) wires) ++ numbers_on trees numbers e
 
--- the ratio on wire e of a net with a number: the even one for the number's share beside all numbers on the wire
+-- the ratio on wire e of a net with a number: the even one for the number's share beside all numbers on the
+-- wire
 abbrev pub shared_ratio : Board → (trees : List (List ℕ)) → (numbers : List ℕ) → (e number : ℕ) → ℕ
 shared_ratio board trees numbers e number =
     even_ratio (share_in (numbers_on trees numbers e) (lanes_of board e) number)
 
 -- the wires of a net's tree, each with the ratio for the net's number
-abbrev pub shared_uses : Board → (trees : List (List ℕ)) → (numbers : List ℕ) → (wires : List ℕ) → (number : ℕ) → List WireUse
+abbrev pub shared_uses : Board → (trees : List (List ℕ)) → (numbers : List ℕ) → (wires : List ℕ)
+    → (number : ℕ) → List WireUse
 shared_uses board trees numbers wires number =
     map (λ e. record { wire = e; ratio = shared_ratio board trees numbers e number }) wires
 

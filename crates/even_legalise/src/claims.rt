@@ -95,7 +95,8 @@ fn add_claims(claims: &mut [u64], least: &[u64], wires: &[u32], number: u64)
     requires least_small { All (λ least_one. least_one ≤ 2 ^ 30) least.now }
     requires room { All (λ sum. sum ≤ 2 ^ 60) claims.old }
     ensures { (e : ℕ) → e < length claims.old → slice_index claims.new e
-        ≡ slice_index claims.old e + sum_by (λ d. if d == e then max number (slice_index least.now e) else 0) wires.now }
+        ≡ slice_index claims.old e + sum_by (λ d. if d == e then max number (slice_index least.now e) else 0)
+        wires.now }
 {
     for e in wires {
         claims[*e as usize] += claim(number, least[*e as usize]);

@@ -7,7 +7,8 @@ use ratio_shares::share;
 use tdm_problem::LANES;
 
 /// The least even ratio, at least 2, that times the share is at least a lane, which has 2^64 units (see
-/// [`even_ratio_is_least`](crate::even_ratio_is_least)). The share is at least 2^34, so the ratio is at most 2^30.
+/// [`even_ratio_is_least`](crate::even_ratio_is_least)). The share is at least 2^34, so the ratio is at most
+/// 2^30.
 pub fn even_of(share: u128) -> u32
     requires { 2 ^ 34 ≤ share }
     ensures value { result ≡ even_ratio share }
@@ -21,8 +22,8 @@ pub fn even_of(share: u128) -> u32
 
 /// The even ratio for the share of a claim, where all claims of the wire together are so much.
 ///
-/// The least even number above all claims over this one is it, unless it is large beside 2^64 over all claims, or two
-/// less would do: so there is mostly no division of 128 bits.
+/// The least even number above all claims over this one is it, unless it is large beside 2^64 over all
+/// claims, or two less would do: so there is mostly no division of 128 bits.
 pub(crate) fn ratio_for(claim: u64, claims: u64) -> u32
     requires some { 1 ≤ claim }
     requires small { claim ≤ 2 ^ 30 }

@@ -13,9 +13,9 @@ use ratio_shares::claim;
 use std::alloc::{AllocError, Global};
 use tdm_problem::{Problem, Trees};
 
-/// The sum of each group in the solution that [`legalise`](crate::legalise) would make of these trees and numbers,
-/// without that solution being made. The trees are for the problem, and there is a number for each net, at most 2^30.
-/// The only error is want of memory.
+/// The sum of each group in the solution that [`legalise`](crate::legalise) would make of these trees and
+/// numbers, without that solution being made. The trees are for the problem, and there is a number for each
+/// net, at most 2^30. The only error is want of memory.
 pub fn shared_sums(
     alloc: Global,
     problem: &Problem,
@@ -68,7 +68,8 @@ fn sum_of_net(wires: &[u32], number: u64, least: &[u64], claims: &[u64]) -> u128
     requires some { All (λ e. 1 ≤ slice_index least.now e) wires.now }
     requires least_small { All (λ e. slice_index least.now e ≤ 2 ^ 30) wires.now }
     requires some_claims { All (λ e. 1 ≤ slice_index claims.now e) wires.now }
-    requires few { All (λ e. slice_index claims.now e ≤ 2 ^ 30 * max number (slice_index least.now e)) wires.now }
+    requires few { All (λ e. slice_index claims.now e ≤ 2 ^ 30 * max number (slice_index least.now e))
+        wires.now }
     ensures total { result ≡ sum_by (λ e. even_ratio
         (share_for (slice_index claims.now e) 1 (max number (slice_index least.now e)))) wires.now }
     ensures small { result < 2 ^ 96 }

@@ -7,8 +7,8 @@ ghost use Rattle.even_legalise.specs.Laws.{ShareLaw};
 ghost use Rattle.even_legalise.specs.Shared.{even_ratio, IsLeastEven};
 
 /// The uniform ratio is the least even ratio with which that many nets fit these lanes if all have it: it is
-/// positive and even where there are a net and a lane, and where there is a lane the nets fit with a positive even
-/// ratio exactly where that is no less than the uniform ratio.
+/// positive and even where there are a net and a lane, and where there is a lane the nets fit with a positive
+/// even ratio exactly where that is no less than the uniform ratio.
 pub fn uniform_is_least()
     ensures even { (nets lanes : ℕ) → 0 < nets → 0 < lanes →
         IsEvenRatio (uniform_ratio nets lanes) }
@@ -16,7 +16,8 @@ pub fn uniform_is_least()
         FitsLanes (replicate nets ratio) lanes ↔ (uniform_ratio nets lanes ≤ ratio) }
 {}
 
-/// Ratios fit the lanes where each, times its share, is at least a lane, and the shares together are within the lanes.
+/// Ratios fit the lanes where each, times its share, is at least a lane, and the shares together are within
+/// the lanes.
 pub fn shares_fit()
     ensures { ShareLaw }
 {}

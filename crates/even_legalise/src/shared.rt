@@ -15,9 +15,10 @@ use ratio_shares::claim;
 use std::alloc::{AllocError, Global};
 use tdm_problem::{Problem, Solution, Trees, WireUse};
 
-/// The solution in which each net uses the wires of its tree with the ratios that shares give: on a wire, the numbers
-/// `s` of its nets share the lanes, and [`even_of`](crate::even_of) of a net's share is its ratio. The trees are for the
-/// problem, and each joins its net; there is a number for each net, at most 2^30. The only error is want of memory.
+/// The solution in which each net uses the wires of its tree with the ratios that shares give: on a wire, the
+/// numbers `s` of its nets share the lanes, and [`even_of`](crate::even_of) of a net's share is its ratio.
+/// The trees are for the problem, and each joins its net; there is a number for each net, at most 2^30. The
+/// only error is want of memory.
 pub fn legalise(
     alloc: Global,
     problem: &Problem,
@@ -79,7 +80,8 @@ fn set_shared_uses(
     requires some { All (λ e. 1 ≤ slice_index least.now e) wires.now }
     requires least_small { All (λ e. slice_index least.now e ≤ 2 ^ 30) wires.now }
     requires some_claims { All (λ e. 1 ≤ slice_index claims.now e) wires.now }
-    requires few { All (λ e. slice_index claims.now e ≤ 2 ^ 30 * max number (slice_index least.now e)) wires.now }
+    requires few { All (λ e. slice_index claims.now e ≤ 2 ^ 30 * max number (slice_index least.now e))
+        wires.now }
     ensures { OnOk result (uses.new.items ≡ map (λ e. record {
       wire = e;
       ratio = even_ratio (share_for (slice_index claims.now e) 1 (max number (slice_index least.now e)));

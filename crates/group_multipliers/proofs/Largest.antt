@@ -7,9 +7,11 @@ use Rattle.std.proofs.lemmas.List.Recursion.{max_bounds, max_least, max_push}
 use Rattle.tdm_problem.specs.Value.{largest}
 
 -- the largest with one number more
-pub largest_more : (xs : List ℕ) (i : ℕ) → i < length xs → largest (take (i + 1) xs) ≡ max (largest (take i xs)) (get_or xs i 0)
+pub largest_more : (xs : List ℕ) (i : ℕ) → i < length xs
+    → largest (take (i + 1) xs) ≡ max (largest (take i xs)) (get_or xs i 0)
 largest_more xs i inside =
-    ap largest (take_more xs i 0 inside) ∙ max_push largest (λ x. x) refl (λ x rest. refl) (take i xs) (get_or xs i 0)
+    ap largest (take_more xs i 0 inside) ∙ max_push largest (λ x. x) refl (λ x rest. refl) (take i xs)
+    (get_or xs i 0)
 
 -- no number is above the largest
 pub le-largest : (xs : List ℕ) → All (λ x. x ≤ largest xs) xs
@@ -17,14 +19,17 @@ le-largest xs = λ i d inside. max_bounds largest (λ x. x) refl (λ x rest. ref
 
 -- what none is above the largest is not above
 pub largest_least : (xs : List ℕ) (m : ℕ) → All (λ x. x ≤ m) xs → largest xs ≤ m
-largest_least xs m within = max_least largest (λ x. x) refl (λ x rest. refl) xs 0 m (λ i inside. within i 0 inside)
+largest_least xs m within = max_least largest (λ x. x) refl (λ x rest. refl) xs 0 m
+    (λ i inside. within i 0 inside)
 
 -- where the largest is above 0 it stands somewhere
-pub largest_reached : (xs : List ℕ) → 0 < largest xs → (k : ℕ) × (k < length xs) × (get_or xs k 0 ≡ largest xs)
+pub largest_reached : (xs : List ℕ) → 0 < largest xs → (k : ℕ) × (k < length xs)
+    × (get_or xs k 0 ≡ largest xs)
 largest_reached [] some = absurd (omega arith)
 largest_reached (x ∷ xs) some = elim (cases_lt x (largest xs)) [
   | inl below ↦
-      let rest : (k : ℕ) × (k < length xs) × (get_or xs k 0 ≡ largest xs) = largest_reached xs (omega arith) in
+      let rest : (k : ℕ) × (k < length xs) × (get_or xs k 0 ≡ largest xs) =
+      largest_reached xs (omega arith) in
       (suc rest.0, omega (arith, rest.1), omega (arith, rest.2))
   | inr above ↦ (0, omega arith, omega arith)
 ]

@@ -8,14 +8,15 @@ use std::alloc::{AllocError, Global};
 /// The greatest weight that a group may have.
 const MAX_WEIGHT: u128 = 1 << 40;
 
-/// The weights of the groups for the next round, from those of this round and the sums that it gave the groups.
+/// The weights of the groups for the next round, from those of this round and the sums that it gave the
+/// groups.
 ///
-/// Each weight is multiplied by its group's sum and divided by the largest sum; the products are then spread over the
-/// range from 1 to 2^40, so that the largest becomes 2^40. Each division rounds down. This is the multiplicative form
-/// of a subgradient step on the weights of the groups.
+/// Each weight is multiplied by its group's sum and divided by the largest sum; the products are then spread
+/// over the range from 1 to 2^40, so that the largest becomes 2^40. Each division rounds down. This is the
+/// multiplicative form of a subgradient step on the weights of the groups.
 ///
-/// There are as many sums as weights. A weight is from 1 to 2^40, a sum at most 2^87, and some sum is above 0. The
-/// only error is want of memory.
+/// There are as many sums as weights. A weight is from 1 to 2^40, a sum at most 2^87, and some sum is above
+/// 0. The only error is want of memory.
 pub fn next_weights(alloc: Global, weights: &[u64], sums: &[u128]) -> Result<Vec<u64>, AllocError>
     requires paired { length sums.now ≡ length weights.now }
     requires positive { All (λ weight. 1 ≤ weight) weights.now }
@@ -28,7 +29,7 @@ pub fn next_weights(alloc: Global, weights: &[u64], sums: &[u128]) -> Result<Vec
 {
     let mut renewal = pulls_of(alloc, weights, sums, largest_sum(sums))?;
     let strongest = largest_pull(&renewal);
-    spread(&mut renewal, strongest);
+    put_weights(&mut renewal, strongest);
     Ok(renewal)
 }
 
@@ -93,7 +94,7 @@ fn pull_of(weight: u64, sum: u128, greatest: u128) -> u64
 }
 
 /// Puts the weight for each pull in its place.
-fn spread(pulls: &mut [u64], strongest: u64)
+fn put_weights(pulls: &mut [u64], strongest: u64)
     requires limited { strongest ≤ 2 ^ 40 }
     requires within { All (λ pull. pull ≤ strongest) pulls.old }
     requires some { 0 < strongest }

@@ -1,6 +1,7 @@
 use Rattle.std.proofs.Common.{ℕ, ◌+◌, ◌*◌, ◌^◌, ◌<◌, ◌≤◌}
 
--- two guesses at the root of n in turn: neither is below it, and the first is not above it where the second is no less
+-- two guesses at the root of n in turn: neither is below it, and the first is not above it where the second
+-- is no less
 pub record AreGuesses (n guess closer : ℕ) : Type 0 where
   pub some : 0 < n
   pub positive : 0 < closer

@@ -16,8 +16,10 @@ larger_first c e b h =
 
 pub product_at_most_square : (a b c : ℕ) → a + b ≤ 2 * c → a * b ≤ c * c
 product_at_most_square a b c h = elim (cases_lt c a) [
-  | inl above ↦ let same : a ≡ c + (a - c) = omega arith in let p = larger_first c (a - c) b (omega arith) in rw same p
-  | inr below ↦ let same : c ≡ a + (c - a) = omega arith in let p = smaller_first a (c - a) b (omega arith) in rw same p
+  | inl above ↦ let same : a ≡ c + (a - c) = omega arith in let p = larger_first c (a - c) b (omega arith) in
+      rw same p
+  | inr below ↦ let same : c ≡ a + (c - a) = omega arith in let p = smaller_first a (c - a) b (omega arith) in
+      rw same p
 ]
 
 -- the mean of a guess g and the quotient q of n by g is not below the root of n

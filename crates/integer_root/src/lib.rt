@@ -32,8 +32,8 @@ fn power_above_root(n: u64) -> u64
     1 << (n.ilog2() / 2 + 1)
 }
 
-/// The mean of the guess and `n` over the guess, rounded down. It is never below the root, and less than the guess
-/// wherever the guess is above the root.
+/// The mean of the guess and `n` over the guess, rounded down. It is never below the root, and less than the
+/// guess wherever the guess is above the root.
 fn mean_with_quotient(n: u64, guess: u64) -> u64
     requires some { 0 < n }
     requires positive { 0 < guess }

@@ -9,7 +9,8 @@ fn groups_of_a_net_rise()
     ensures first { holders_before ((0 ∷ 1 ∷ 2 ∷ []) ∷ (1 ∷ []) ∷ []) 2 2 ≡ 0 ∷ [] }
     ensures before { holders_before ((0 ∷ 1 ∷ 2 ∷ []) ∷ (1 ∷ []) ∷ []) 1 1 ≡ 0 ∷ [] }
     ensures none { holders_before ((0 ∷ 1 ∷ 2 ∷ []) ∷ (1 ∷ []) ∷ []) 2 3 ≡ [] }
-    ensures of_net { groups_of (record { groups = 2; of_nets = (0 ∷ []) ∷ (0 ∷ 1 ∷ []) ∷ [] }) 1 ≡ 0 ∷ 1 ∷ [] }
+    ensures of_net { groups_of (record { groups = 2; of_nets = (0 ∷ []) ∷ (0 ∷ 1 ∷ []) ∷ [] }) 1
+        ≡ 0 ∷ 1 ∷ [] }
     ensures falling { ¬ IsNetGroups (record { groups = 2; of_nets = (1 ∷ 0 ∷ []) ∷ [] }) }
     ensures unknown { ¬ IsNetGroups (record { groups = 1; of_nets = (1 ∷ []) ∷ [] }) }
 {}
@@ -32,8 +33,10 @@ fn an_incidence_is_of_its_board()
 
 /// A net weighs what its groups weigh, and a group sums the ratios of the nets that it holds.
 fn weights_and_sums_are_over_groups_of_nets()
-    ensures one { weight_of (record { groups = 2; of_nets = (0 ∷ []) ∷ (0 ∷ 1 ∷ []) ∷ [] }) (5 ∷ 7 ∷ []) 0 ≡ 5 }
-    ensures both { weight_of (record { groups = 2; of_nets = (0 ∷ []) ∷ (0 ∷ 1 ∷ []) ∷ [] }) (5 ∷ 7 ∷ []) 1 ≡ 12 }
+    ensures one { weight_of (record { groups = 2; of_nets = (0 ∷ []) ∷ (0 ∷ 1 ∷ []) ∷ [] }) (5 ∷ 7 ∷ []) 0
+        ≡ 5 }
+    ensures both { weight_of (record { groups = 2; of_nets = (0 ∷ []) ∷ (0 ∷ 1 ∷ []) ∷ [] }) (5 ∷ 7 ∷ []) 1
+        ≡ 12 }
     ensures all_nets { sum_before (record { groups = 2; of_nets = (0 ∷ []) ∷ (0 ∷ 1 ∷ []) ∷ [] })
         (on_wire_0 (2 ∷ 6 ∷ [])) 2 0 ≡ 8 }
     ensures second_net { sum_before (record { groups = 2; of_nets = (0 ∷ []) ∷ (0 ∷ 1 ∷ []) ∷ [] })

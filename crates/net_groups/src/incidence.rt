@@ -31,8 +31,8 @@ impl Model for Incidence {
 }
 
 impl Incidence {
-    /// The groups of each net of a problem, in time and memory in proportion to the nets that the groups list. The
-    /// only error is want of memory.
+    /// The groups of each net of a problem, in time and memory in proportion to the nets that the groups
+    /// list. The only error is want of memory.
     pub fn of(alloc: Global, problem: &Problem) -> Result<Incidence, AllocError>
         ensures { IfOk result (λ incidence. IsIncidenceOf problem.now incidence) }
     {
@@ -69,8 +69,8 @@ impl Incidence {
         self.of_nets.row(n as usize)
     }
 
-    /// For each net the sum of the weights of the groups that hold it, each weight at most 2^40. The only error is
-    /// want of memory.
+    /// For each net the sum of the weights of the groups that hold it, each weight at most 2^40. The only
+    /// error is want of memory.
     pub fn weights_of(&self, alloc: Global, weights: &[u64]) -> Result<Vec<u64>, AllocError>
         requires count { length weights.now ≡ self.now.groups }
         requires small { All (λ w. w ≤ 2 ^ 40) weights.now }
@@ -89,8 +89,8 @@ impl Incidence {
         Ok(sums)
     }
 
-    /// The sum of each group: that of all ratios of all its nets. The solution has as many nets. Each net's sum is
-    /// made once. The only error is want of memory.
+    /// The sum of each group: that of all ratios of all its nets. The solution has as many nets. Each net's
+    /// sum is made once. The only error is want of memory.
     pub fn sums(&self, alloc: Global, solution: &Solution) -> Result<Vec<u128>, AllocError>
         requires { length solution.now ≡ length self.now.of_nets }
         ensures count { IfOk result (λ sums. length sums.items ≡ self.now.groups) }

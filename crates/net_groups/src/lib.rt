@@ -5,9 +5,11 @@
 mod definitions;
 mod gathering;
 mod incidence;
+mod running;
 mod summing;
 
 pub use incidence::Incidence;
+pub use running::RunningSums;
 
 #[cfg(test)]
 mod tests;

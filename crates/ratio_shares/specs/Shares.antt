@@ -14,7 +14,8 @@ claim_in numbers number = max number (least_claim numbers)
 abbrev pub claims_of : (numbers : List ℕ) → ℕ
 claims_of numbers = sum_by (claim_in numbers) numbers
 
--- what a claim gets of some lanes, each of which has 2^64 units, where all claims together are so much; rounded down
+-- what a claim gets of some lanes, each of which has 2^64 units, where all claims together are so much;
+-- rounded down
 abbrev pub share_for : (all_claims lanes : ℕ) → (claim : ℕ) → ℕ
 share_for all_claims lanes claim = lanes * 2 ^ 64 * claim / all_claims
 

@@ -8,8 +8,9 @@ use std::alloc::{AllocError, Global};
 
 /// The share of each number in the lanes of a wire, in units of which a lane has 2^64, rounded down.
 ///
-/// Each number claims itself, and at least 1 and a 1024th of the largest, rounded up; the shares are in proportion to
-/// the claims. In proportion to the roots of their weights, nets have the least weighted sum of ratios.
+/// Each number claims itself, and at least 1 and a 1024th of the largest, rounded up; the shares are in
+/// proportion to the claims. In proportion to the roots of their weights, nets have the least weighted sum of
+/// ratios.
 ///
 /// There are 1 to 2^20 numbers of at most 2^30, and 1 to 1,024 lanes. The only error is want of memory.
 pub fn shares(alloc: Global, s: &[u64], lanes: u64) -> Result<Vec<u128>, AllocError>

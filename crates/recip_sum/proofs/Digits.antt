@@ -17,14 +17,23 @@ ratios_of-after (t ∷ ts) = ap (λ rs. t.ratio ∷ rs) (ratios_of-after ts)
 pub item_count-after : (ts : List Term) → item_count (map after_digit ts) ≡ item_count ts
 item_count-after [] = refl
 item_count-after (t ∷ ts) =
-    omega (arith, item_count-after ts, sum_by-cons (λ (t : Term). t.count) t ts, sum_by-cons (λ (t : Term). t.count) (after_digit t) (map after_digit ts))
+    omega (
+      arith,
+      item_count-after ts,
+      sum_by-cons (λ (t : Term). t.count) t ts,
+      sum_by-cons (λ (t : Term). t.count) (after_digit t) (map after_digit ts),
+    )
 
 pub IsTerm-after : (ts : List Term) → All IsTerm ts → All IsTerm (map after_digit ts)
 IsTerm-after [] h = All-nil IsTerm
 IsTerm-after (t ∷ ts) h =
     let here = head t ts h in
     let below = mod_below (t.remainder * 2 ^ 32) t.ratio here.positive in
-    All-cons IsTerm (after_digit t) (map after_digit ts) record { positive = here.positive; bound = here.bound; rest = omega arith } (IsTerm-after ts (All-tail IsTerm t ts h))
+    All-cons IsTerm (after_digit t) (map after_digit ts) record {
+      positive = here.positive;
+      bound = here.bound;
+      rest = omega arith;
+    } (IsTerm-after ts (All-tail IsTerm t ts h))
 
 pub product-positive : (ts : List Term) → All IsTerm ts → 0 < product (ratios_of ts)
 product-positive [] h = omega arith
@@ -43,21 +52,30 @@ product-le (t ∷ ts) h =
 pub numerator-le : (ts : List Term) → All IsTerm ts → numerator ts ≤ item_count ts * product (ratios_of ts)
 numerator-le [] h = omega arith
 numerator-le (t ∷ ts) h =
-    let rest = mul-le t.ratio (numerator ts) t.ratio (item_count ts * product (ratios_of ts)) (omega arith) (numerator-le ts (All-tail IsTerm t ts h)) in
-    let most : t.count * t.remainder ≤ t.count * t.ratio = mul-le t.count t.remainder t.count t.ratio (omega arith) (head t ts h).rest in
-    let here = mul-le (t.count * t.remainder) (product (ratios_of ts)) (t.count * t.ratio) (product (ratios_of ts)) most (omega arith) in
-    let sum : numerator (t ∷ ts) ≤ (t.count + item_count ts) * (t.ratio * product (ratios_of ts)) = omega arith in
+    let rest = mul-le t.ratio (numerator ts) t.ratio (item_count ts * product (ratios_of ts)) (omega arith)
+    (numerator-le ts (All-tail IsTerm t ts h)) in
+    let most : t.count * t.remainder ≤ t.count * t.ratio =
+    mul-le t.count t.remainder t.count t.ratio (omega arith) (head t ts h).rest in
+    let here = mul-le (t.count * t.remainder) (product (ratios_of ts)) (t.count * t.ratio)
+    (product (ratios_of ts)) most (omega arith) in
+    let sum : numerator (t ∷ ts) ≤ (t.count + item_count ts) * (t.ratio * product (ratios_of ts)) =
+    omega arith in
     rw (sum_by-cons (λ (t : Term). t.count) t ts) sum
 
 -- one term more, with quotient q and remainder m of its division
-one_more_numerator : (b k r rem q m p n d n' : ℕ) → rem * b ≡ q * r + m → n * b ≡ d * p + n' → (k * rem * p + r * n) * b ≡ (k * q + d) * (r * p) + (k * m * p + r * n')
+one_more_numerator : (b k r rem q m p n d n' : ℕ) → rem * b ≡ q * r + m → n * b ≡ d * p + n'
+    → (k * rem * p + r * n) * b ≡ (k * q + d) * (r * p) + (k * m * p + r * n')
 one_more_numerator b k r rem q m p n d n' division rest =
     let here = ap (λ x. k * p * x) division in
     let there = ap (λ x. r * x) rest in
     omega arith
 
-pub numerator-after : (ts : List Term) → numerator ts * 2 ^ 32 ≡ digits_sum ts * product (ratios_of ts) + numerator (map after_digit ts)
+pub numerator-after : (ts : List Term) → numerator ts * 2 ^ 32 ≡ digits_sum ts * product (ratios_of ts)
+    + numerator (map after_digit ts)
 numerator-after [] = omega arith
 numerator-after (t ∷ ts) =
-    let e = one_more_numerator (2 ^ 32) t.count t.ratio t.remainder (digit_of t) (t.remainder * 2 ^ 32 % t.ratio) (product (ratios_of ts)) (numerator ts) (digits_sum ts) (numerator (map after_digit ts)) (sym (div-add-mod' (t.remainder * 2 ^ 32) t.ratio)) (numerator-after ts) in
+    let e = one_more_numerator (2 ^ 32) t.count t.ratio t.remainder (digit_of t)
+    (t.remainder * 2 ^ 32 % t.ratio) (product (ratios_of ts)) (numerator ts) (digits_sum ts)
+    (numerator (map after_digit ts)) (sym (div-add-mod' (t.remainder * 2 ^ 32) t.ratio))
+    (numerator-after ts) in
     rw (sum_by-cons (λ (t : Term). t.count * digit_of t) t ts, ratios_of-after ts) e

@@ -35,15 +35,19 @@ one_more_above w r f s p n here rest =
 floors-below : (rs : List ℕ) → floor_sum rs * product rs ≤ 2 ^ 64 * reciprocals rs
 floors-below [] = omega arith
 floors-below (r ∷ rs) =
-    rw (sum_by-cons floor_of r rs) (one_more_below (2 ^ 64) r (floor_of r) (floor_sum rs) (product rs) (reciprocals rs) (floor_of-le r) (floors-below rs))
+    rw (sum_by-cons floor_of r rs) (one_more_below (2 ^ 64) r (floor_of r) (floor_sum rs) (product rs)
+    (reciprocals rs) (floor_of-le r) (floors-below rs))
 
 ceilings-above : (rs : List ℕ) → All (λ r. 0 < r) rs → 2 ^ 64 * reciprocals rs ≤ ceiling_sum rs * product rs
 ceilings-above [] positive = omega arith
 ceilings-above (r ∷ rs) positive =
-    rw (sum_by-cons ceiling_of r rs) (one_more_above (2 ^ 64) r (ceiling_of r) (ceiling_sum rs) (product rs) (reciprocals rs) (ceiling_of-ge r (All-head (λ r. 0 < r) r rs positive)) (ceilings-above rs (All-tail (λ r. 0 < r) r rs positive)))
+    rw (sum_by-cons ceiling_of r rs) (one_more_above (2 ^ 64) r (ceiling_of r) (ceiling_sum rs) (product rs)
+    (reciprocals rs) (ceiling_of-ge r (All-head (λ r. 0 < r) r rs positive))
+    (ceilings-above rs (All-tail (λ r. 0 < r) r rs positive)))
 
 -- reciprocals that, rounded up, sum to at most the lanes fit
-pub fits_from_ceilings : (rs : List ℕ) (lanes : ℕ) → All (λ r. 0 < r) rs → ceiling_sum rs ≤ lanes * 2 ^ 64 → FitsLanes rs lanes
+pub fits_from_ceilings : (rs : List ℕ) (lanes : ℕ) → All (λ r. 0 < r) rs → ceiling_sum rs ≤ lanes * 2 ^ 64
+    → FitsLanes rs lanes
 fits_from_ceilings rs lanes positive most =
     let above = ceilings-above rs positive in
     let scaled = mul-le (ceiling_sum rs) (product rs) (lanes * 2 ^ 64) (product rs) most (omega arith) in
@@ -52,7 +56,9 @@ fits_from_ceilings rs lanes positive most =
 
 -- rounded up a reciprocal is at most one more than rounded down
 ceiling_of-le : (r : ℕ) → 0 < r → ceiling_of r ≤ floor_of r + 1
-ceiling_of-le r positive = let h = le-div ((2 ^ 64 - 1) / r) (2 ^ 64) r positive (omega (arith, div-mul-le_self (2 ^ 64 - 1) r)) in omega arith
+ceiling_of-le r positive = let h =
+    le-div ((2 ^ 64 - 1) / r) (2 ^ 64) r positive (omega (arith, div-mul-le_self (2 ^ 64 - 1) r)) in
+    omega arith
 
 pub ceiling_sum-le : (rs : List ℕ) → All (λ r. 0 < r) rs → ceiling_sum rs ≤ floor_sum rs + length rs
 ceiling_sum-le [] positive = omega arith
@@ -62,23 +68,28 @@ ceiling_sum-le (r ∷ rs) positive =
     omega (arith, sum_by-cons ceiling_of r rs, sum_by-cons floor_of r rs)
 
 -- reciprocals that sum to at most the lanes with one unit more for each, rounded down, fit
-pub fits_from_floors : (rs : List ℕ) (lanes : ℕ) → All (λ r. 0 < r) rs → floor_sum rs + length rs ≤ lanes * 2 ^ 64 → FitsLanes rs lanes
-fits_from_floors rs lanes positive most = fits_from_ceilings rs lanes positive (omega (arith, ceiling_sum-le rs positive))
+pub fits_from_floors : (rs : List ℕ) (lanes : ℕ) → All (λ r. 0 < r) rs
+    → floor_sum rs + length rs ≤ lanes * 2 ^ 64 → FitsLanes rs lanes
+fits_from_floors rs lanes positive most =
+    fits_from_ceilings rs lanes positive (omega (arith, ceiling_sum-le rs positive))
 
 -- reciprocals that, rounded down, sum to more than the lanes do not fit
-pub floors-fit : (rs : List ℕ) (lanes : ℕ) → All (λ r. 0 < r) rs → FitsLanes rs lanes → floor_sum rs ≤ lanes * 2 ^ 64
+pub floors-fit : (rs : List ℕ) (lanes : ℕ) → All (λ r. 0 < r) rs → FitsLanes rs lanes
+    → floor_sum rs ≤ lanes * 2 ^ 64
 floors-fit rs lanes positive fits =
     let below = floors-below rs in
     let sides : floor_sum rs * product rs ≤ lanes * 2 ^ 64 * product rs = omega arith in
     le_of_mul-le-mul_right sides (product-positive rs positive)
 
 -- 2^64 / r from the quotient and the remainder of 2^64 - 1 by r
-pub floor_of-next : (r q m : ℕ) → q ≡ (2 ^ 64 - 1) / r → m ≡ (2 ^ 64 - 1) % r → 0 < r → m + 1 ≡ r → q + 1 ≡ floor_of r
+pub floor_of-next : (r q m : ℕ) → q ≡ (2 ^ 64 - 1) / r → m ≡ (2 ^ 64 - 1) % r → 0 < r → m + 1 ≡ r
+    → q + 1 ≡ floor_of r
 floor_of-next r q m quotient rest positive last =
     let e : q * r + m ≡ 2 ^ 64 - 1 = rw (quotient, rest) (div-add-mod' (2 ^ 64 - 1) r) in
     sym (div-eq_of_lt-le {k = q + 1} r {m = 2 ^ 64} (omega arith) (omega arith))
 
-pub floor_of-same : (r q m : ℕ) → q ≡ (2 ^ 64 - 1) / r → m ≡ (2 ^ 64 - 1) % r → 0 < r → m + 1 < r → q ≡ floor_of r
+pub floor_of-same : (r q m : ℕ) → q ≡ (2 ^ 64 - 1) / r → m ≡ (2 ^ 64 - 1) % r → 0 < r → m + 1 < r
+    → q ≡ floor_of r
 floor_of-same r q m quotient rest positive more =
     let e : q * r + m ≡ 2 ^ 64 - 1 = rw (quotient, rest) (div-add-mod' (2 ^ 64 - 1) r) in
     sym (div-eq_of_lt-le {k = q} r {m = 2 ^ 64} (omega arith) (omega arith))

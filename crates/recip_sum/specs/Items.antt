@@ -9,7 +9,8 @@ abbrev pub items_of : List (ℕ × ℕ) → List ℕ
 items_of [] = []
 items_of (e ∷ es) = replicate e.1 e.0 ++ items_of es
 
--- lists that fit the same lanes, as two orders of one list do: they have equal products, sums of reciprocals and lengths,
+-- lists that fit the same lanes, as two orders of one list do: they have equal products, sums of reciprocals
+-- and lengths,
 -- and equal sums of whatever part each item counts for, so that they have each item equally often
 pub record SameReciprocals (xs ys : List ℕ) : Type 0 where
   pub products : product xs ≡ product ys

@@ -9,7 +9,8 @@ use Rattle.recip_sum.specs.Rounded.{floor_sum}
 abbrev pub IsRatio : ℕ → Type 0
 IsRatio ratio = (0 < ratio) × (ratio < 2 ^ 32)
 
--- the entries count positive numbers of items of positive ratios, which are `total` in all and have `floors` as the sum of
+-- the entries count positive numbers of items of positive ratios, which are `total` in all and have `floors`
+-- as the sum of
 -- their reciprocals rounded down; where there are entries there is room for a term for each and one more
 pub record AreCounts (entries : List (ℕ × ℕ)) (total floors room : ℕ) : Type 0 where
   pub ordered : IsStrictlySortedBy nat_cmp (keys_of entries)

@@ -24,8 +24,8 @@ use std::sync::ledger::{Blank, Ledger};
 /// The lanes' unit: a reciprocal of 1.
 pub(crate) const UNIT: u128 = 1 << 64;
 
-/// How many items there are of each ratio: at most 2^20 in all, of ratios from 1 to 2^32 - 1. Contracts see it as a
-/// finite map from ratios to positive numbers of items.
+/// How many items there are of each ratio: at most 2^20 in all, of ratios from 1 to 2^32 - 1. Contracts see
+/// it as a finite map from ratios to positive numbers of items.
 #[derive(Drop)]
 pub struct Counts {
     counts: BTreeMap<u32, u32>,
@@ -86,8 +86,8 @@ impl Counts {
         self.counts.len() as u32
     }
 
-    /// Adds one item of the ratio, in the time of a look-up or two and a division. Makes the room that `at_most` and
-    /// `least_even` use.
+    /// Adds one item of the ratio, in the time of a look-up or two and a division. Makes the room that
+    /// `at_most` and `least_even` use.
     ///
     /// The only error is want of memory, and it leaves the items as they were.
     pub fn add(&mut self, ratio: u32) -> Result<(), AllocError>
@@ -126,13 +126,13 @@ impl Counts {
         self.floors = 0;
     }
 
-    /// Whether the reciprocals of all items sum to at most `lanes`, exactly. Leaves the items as they were, and takes no
-    /// memory.
+    /// Whether the reciprocals of all items sum to at most `lanes`, exactly. Leaves the items as they were,
+    /// and takes no memory.
     ///
-    /// A step is one division. There is none where the sum of the reciprocals rounded down tells: it fits with a unit more
-    /// for each item, or it does not fit as it is. Else, with `d` different ratios, there are at most `d(d + 1)` steps, and
-    /// mostly `d`, since the first digits decide. The method is long division in base 2^32, a digit of each ratio's
-    /// reciprocal at a time.
+    /// A step is one division. There is none where the sum of the reciprocals rounded down tells: it fits
+    /// with a unit more for each item, or it does not fit as it is. Else, with `d` different ratios, there
+    /// are at most `d(d + 1)` steps, and mostly `d`, since the first digits decide. The method is long
+    /// division in base 2^32, a digit of each ratio's reciprocal at a time.
     pub fn at_most<L: Ledger>(&mut self, lanes: u64, steps: &mut Steps<L>) -> bool
         ensures same { self.new ≡ self.old }
         ensures exact { IsTrue result ↔ FitsLanes (items self.old) lanes }
@@ -152,11 +152,11 @@ impl Counts {
         reciprocals_fit(&self.counts, &mut self.terms, self.total, lanes, steps)
     }
 
-    /// The least even ratio, at least 2, with which one more item fits the lanes, exactly. Leaves the items as they were,
-    /// and takes no memory.
+    /// The least even ratio, at least 2, with which one more item fits the lanes, exactly. Leaves the items
+    /// as they were, and takes no memory.
     ///
-    /// The halves of the ratios are bisected, and a step is one division. A ratio that is tried takes one step, and more
-    /// only where the reciprocals rounded down do not tell.
+    /// The halves of the ratios are bisected, and a step is one division. A ratio that is tried takes one
+    /// step, and more only where the reciprocals rounded down do not tell.
     pub fn least_even<L: Ledger>(&mut self, lanes: u64, steps: &mut Steps<L>) -> u32
         requires few { length (items self.old) < 2 ^ 20 }
         requires room { FitsLanes (4294967294 ∷ items self.old) lanes }

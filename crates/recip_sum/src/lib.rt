@@ -1,5 +1,5 @@
-//! Whether reciprocals sum to at most a number of lanes, and the least even ratio for which there is room, decided
-//! exactly without forming a product.
+//! Whether reciprocals sum to at most a number of lanes, and the least even ratio for which there is room,
+//! decided exactly without forming a product.
 #![tactic(auto)]
 
 mod counts;

@@ -1,8 +1,8 @@
 //! Long division in base 2^32 of several fractions at once.
 //!
-//! A term stands for `count * remainder / ratio`. A turn moves each remainder one digit on, and what the terms then
-//! stand for, with the digits that were taken, is 2^32 times what they stood for before. So a sum of reciprocals is
-//! compared with a whole number digit by digit, and no product of ratios is formed.
+//! A term stands for `count * remainder / ratio`. A turn moves each remainder one digit on, and what the
+//! terms then stand for, with the digits that were taken, is 2^32 times what they stood for before. So a sum
+//! of reciprocals is compared with a whole number digit by digit, and no product of ratios is formed.
 
 ghost use Rattle.std.specs.Prelude.{◌≡◌, ◌+◌, ◌*◌, ◌/◌, ◌%◌, ◌^◌, ◌<◌, ◌≤◌, All, length, map, sum_by, IsTrue, ◌↔◌};
 ghost use Rattle.recip_sum.specs.LongDivision.{after_digit, digits_sum, item_count, numerator, ratios_of, IsTerm};
@@ -62,7 +62,8 @@ pub(crate) fn sum_to_at_most<L: Ledger>(
     true
 }
 
-/// One turn: moves each remainder one digit on, and returns the sum of the digits, each as often as its count says.
+/// One turn: moves each remainder one digit on, and returns the sum of the digits, each as often as its count
+/// says.
 fn take_digits<L: Ledger>(terms: &mut [Term], steps: &mut Steps<L>) -> u64
     requires terms { All IsTerm terms.old }
     requires few_items { item_count terms.old ≤ MAX_ITEMS }

@@ -5,8 +5,8 @@ ghost use Rattle.std.specs.Prelude.{◌≡◌, ◌+◌, ◌<◌};
 use std::marker::Model;
 use std::sync::ledger::{Blank, Book, Ledger, Share};
 
-/// How many steps were taken, where a step is one division. Contracts see it as a number, and at run time it has no
-/// bytes. A step raises it by 1, and no call lowers it.
+/// How many steps were taken, where a step is one division. Contracts see it as a number, and at run time it
+/// has no bytes. A step raises it by 1, and no call lowers it.
 #[derive(Drop)]
 pub struct Steps<L: Ledger> {
     book: Book<L>,

@@ -25,22 +25,29 @@ first-none board = record {
   minimal = λ m below. absurd (omega (arith, below));
 }
 
-pub first-more : (board : Board) (n : ℕ) (trees : List (List ℕ)) (wires : List ℕ) → AreFirst board n trees → All (λ e. e < length board.wires) wires → IsMinimalTree board wires (terminals_of board n) → AreFirst board (n + 1) (trees ++ wires ∷ [])
+pub first-more : (board : Board) (n : ℕ) (trees : List (List ℕ)) (wires : List ℕ) → AreFirst board n trees
+    → All (λ e. e < length board.wires) wires → IsMinimalTree board wires (terminals_of board n)
+    → AreFirst board (n + 1) (trees ++ wires ∷ [])
 first-more board n trees wires so_far there minimal = record {
   count = omega (arith, length-append trees (wires ∷ []), so_far.count);
   there = All-push (λ ws. All (λ e. e < length board.wires) ws) trees wires so_far.there there;
   minimal = λ m below. ⊎_elim
       (λ (before : m < n).
-      subst (λ (ws : List ℕ). IsMinimalTree board ws (terminals_of board m)) (sym (get_or-append trees (wires ∷ []) [] m (omega (arith, before, so_far.count)))) (so_far.minimal m before))
+      subst (λ (ws : List ℕ). IsMinimalTree board ws (terminals_of board m))
+      (sym (get_or-append trees (wires ∷ []) [] m (omega (arith, before, so_far.count))))
+      (so_far.minimal m before))
       (λ (last : n ≤ m).
       let at : m ≡ length trees = omega (arith, last, below, so_far.count) in
-      let is : tree_of (trees ++ wires ∷ []) m ≡ wires = ap (tree_of (trees ++ wires ∷ [])) at ∙ get_or-append_seam trees wires [] [] in
+      let is : tree_of (trees ++ wires ∷ []) m ≡ wires = ap (tree_of (trees ++ wires ∷ [])) at
+      ∙ get_or-append_seam trees wires [] [] in
       subst (λ (ws : List ℕ). IsMinimalTree board ws (terminals_of board m)) (sym is)
-      (subst (λ (k : ℕ). IsMinimalTree board wires (terminals_of board k)) (omega (arith, at, so_far.count)) minimal))
+      (subst (λ (k : ℕ). IsMinimalTree board wires (terminals_of board k)) (omega (arith, at, so_far.count))
+      minimal))
       (cases_lt m n);
 }
 
-pub first-all : (board : Board) (n : ℕ) (trees : List (List ℕ)) → n ≡ length board.nets → AreFirst board n trees → AreMinimalTrees board trees
+pub first-all : (board : Board) (n : ℕ) (trees : List (List ℕ)) → n ≡ length board.nets
+    → AreFirst board n trees → AreMinimalTrees board trees
 first-all board n trees all first = record {
   for_board = record { nets = first.count ∙ all; there = first.there };
   minimal = λ m below. first.minimal m (omega (arith, below, all));

@@ -9,3 +9,4 @@ pub mod Starts
 pub mod Reaching
 pub mod Scaling
 pub mod Crossing
+pub mod FirstWires

@@ -16,7 +16,8 @@ use Rattle.ripup_reroute.specs.Working.{AreLoads, IsAdded}
 
 -- a test for equality that holds
 same-test : (x e : ℕ) → (x == e) ≡ true → x ≡ e
-same-test x e holds = ⊎_elim (λ (same : x ≡ e). same) (λ (other : x ≢ e). absurd (let never : false ≡ true = sym (ne_eqb x e other) ∙ holds in cc)) (cases_eq x e)
+same-test x e holds = ⊎_elim (λ (same : x ≡ e). same) (λ (other : x ≢ e). absurd (let never : false ≡ true =
+    sym (ne_eqb x e other) ∙ holds in cc)) (cases_eq x e)
 
 -- a tree has a wire, or does not load it
 tree-or-none : (number : ℕ) (tree : List ℕ) (e : ℕ) → Contains tree e ⊎ (load_by number tree e ≡ 0)
@@ -33,17 +34,27 @@ lower-scale : (tabled old scale length : ℕ) → scale ≤ old → tabled * old
 lower-scale tabled old scale length least so_far = omega (arith, mul-le-mul_left tabled least, so_far)
 
 -- the load of a wire, with the net and without
-load-split : (trees : List (List ℕ)) (numbers : List ℕ) (n e : ℕ) → n < length trees → load_of trees numbers e ≡ load_of (without_net trees n) numbers e + load_by (slice_index numbers n) (tree_of trees n) e
+load-split : (trees : List (List ℕ)) (numbers : List ℕ) (n e : ℕ) → n < length trees
+    → load_of trees numbers e ≡ load_of (without_net trees n) numbers e + load_by (slice_index numbers n)
+    (tree_of trees n) e
 load-split trees numbers n e there =
-    ap (λ (ts : List (List ℕ)). load_of ts numbers e) (sym (set-get_or trees n [])) ∙ load_of-moved trees numbers n (tree_of trees n) e there
+    ap (λ (ts : List (List ℕ)). load_of ts numbers e) (sym (set-get_or trees n []))
+    ∙ load_of-moved trees numbers n (tree_of trees n) e there
 
 -- the marginal lengths of a net keep a scale that its own wires keep
-pub scaled-turn : (board : Board) (trees : List (List ℕ)) (numbers : List ℕ) (n : ℕ) (loads tree : List ℕ) (table : Table) (scale : ℕ) → n < length trees → tree_of trees n ≡ tree → AreLoads board (without_net trees n) numbers loads → IsScaled table table.scale (λ e. 2 * load_of trees numbers e) → scale ≤ table.scale → ((e : ℕ) → Contains tree e → tabled_length table e * scale ≤ 4096 * (2 * slice_index loads e + slice_index numbers n)) → IsScaled table scale (λ e. 2 * slice_index loads e + slice_index numbers n)
+pub scaled-turn : (board : Board) (trees : List (List ℕ)) (numbers : List ℕ) (n : ℕ) (loads tree : List ℕ)
+    (table : Table) (scale : ℕ) → n < length trees → tree_of trees n ≡ tree
+    → AreLoads board (without_net trees n) numbers loads
+    → IsScaled table table.scale (λ e. 2 * load_of trees numbers e) → scale ≤ table.scale
+    → ((e : ℕ) → Contains tree e → tabled_length table e * scale
+    ≤ 4096 * (2 * slice_index loads e + slice_index numbers n))
+    → IsScaled table scale (λ e. 2 * slice_index loads e + slice_index numbers n)
 scaled-turn board trees numbers n loads tree table scale there is are so_far least own e =
     ⊎_elim
     (λ (in_tree : Contains tree e). own e in_tree)
     (λ (apart : load_by (slice_index numbers n) tree e ≡ 0).
-    lower-scale (tabled_length table e) table.scale scale (4096 * (2 * slice_index loads e + slice_index numbers n)) least
+    lower-scale (tabled_length table e) table.scale scale
+    (4096 * (2 * slice_index loads e + slice_index numbers n)) least
     (omega (
       arith,
       so_far e,
@@ -55,17 +66,24 @@ scaled-turn board trees numbers n loads tree table scale there is are so_far lea
     (tree-or-none (slice_index numbers n) tree e)
 
 -- the table beside the loads, in the words of the trees
-pub scaled-trees : (board : Board) (trees : List (List ℕ)) (numbers loads : List ℕ) (of : Board) (table : Table) → AreLoads board trees numbers loads → IsTableAt of loads table → IsScaled table table.scale (λ e. 2 * load_of trees numbers e)
+pub scaled-trees : (board : Board) (trees : List (List ℕ)) (numbers loads : List ℕ) (of : Board)
+    (table : Table) → AreLoads board trees numbers loads → IsTableAt of loads table
+    → IsScaled table table.scale (λ e. 2 * load_of trees numbers e)
 scaled-trees board trees numbers loads of table are at e = omega (arith, at.scaled e, are.each e)
 
 -- a net has moved from its tree to other wires, and the scale is lowered for the wires of its tree
-pub table-moved : (board : Board) (table new : Table) (number : ℕ) (tree wires loads rest now : List ℕ) → IsTableAt board loads table → IsTable board new → new.loads.items ≡ table.loads.items → new.scale ≤ table.scale → IsAdded number tree rest loads → IsAdded number wires rest now → ((e : ℕ) → Contains tree e → tabled_length new e * new.scale ≤ 4096 * (2 * slice_index now e + 0)) → IsTableAt board now new
+pub table-moved : (board : Board) (table new : Table) (number : ℕ) (tree wires loads rest now : List ℕ)
+    → IsTableAt board loads table → IsTable board new → new.loads.items ≡ table.loads.items
+    → new.scale ≤ table.scale → IsAdded number tree rest loads → IsAdded number wires rest now
+    → ((e : ℕ) → Contains tree e → tabled_length new e * new.scale ≤ 4096 * (2 * slice_index now e + 0))
+    → IsTableAt board now new
 table-moved board table new number tree wires loads rest now at is same least off on own = record {
   table_is = is;
   scaled = λ e. ⊎_elim
       (λ (in_tree : Contains tree e). own e in_tree)
       (λ (apart : load_by number tree e ≡ 0).
-      let tabled : tabled_length new e ≡ tabled_length table e = ap (λ (xs : List ℕ). 2 * slice_index xs e + 0) same in
+      let tabled : tabled_length new e ≡ tabled_length table e =
+      ap (λ (xs : List ℕ). 2 * slice_index xs e + 0) same in
       let before : tabled_length new e * table.scale ≤ 4096 * (2 * slice_index loads e + 0) =
       subst (λ (k : ℕ). k * table.scale ≤ 4096 * (2 * slice_index loads e + 0)) (sym tabled) (at.scaled e) in
       lower-scale (tabled_length new e) table.scale new.scale (4096 * (2 * slice_index now e + 0)) least
@@ -74,7 +92,9 @@ table-moved board table new number tree wires loads rest now at is same least of
 }
 
 -- a net is back on its tree
-pub table-back : (board : Board) (table : Table) (number : ℕ) (tree loads rest now : List ℕ) → IsTableAt board loads table → IsAdded number tree rest loads → IsAdded number tree rest now → IsTableAt board now table
+pub table-back : (board : Board) (table : Table) (number : ℕ) (tree loads rest now : List ℕ)
+    → IsTableAt board loads table → IsAdded number tree rest loads → IsAdded number tree rest now
+    → IsTableAt board now table
 table-back board table number tree loads rest now at off on = record {
   table_is = at.table_is;
   scaled = λ e. omega (arith, at.scaled e, off.each e, on.each e);

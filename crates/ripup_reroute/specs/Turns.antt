@@ -8,7 +8,8 @@ use Rattle.tdm_problem.specs.Loads.{load_cost, marginal_length}
 use Rattle.tdm_problem.specs.Trees.{tree_of}
 use Rattle.tdm_problem.specs.Walk.{IsMinimalTree}
 
--- net n's number times the marginal length of its tree is at most its number times the sum of the least marginal
+-- net n's number times the marginal length of its tree is at most its number times the sum of the least
+-- marginal
 -- lengths of walks from its first FPGA to the others
 abbrev pub IsShortFor : Board → (numbers : List ℕ) → (n : ℕ) → (trees : List (List ℕ)) → Type 0
 IsShortFor board numbers n trees = (distance : ℕ → ℕ)
@@ -17,7 +18,8 @@ IsShortFor board numbers n trees = (distance : ℕ → ℕ)
     → slice_index numbers n * length_of (marginal_length trees numbers n) (tree_of trees n)
     ≤ slice_index numbers n * sum_by distance (terminals_of board n)
 
--- a turn of net n: all other trees stay, and its own stays or becomes another minimal tree, wires rising, of smaller
+-- a turn of net n: all other trees stay, and its own stays or becomes another minimal tree, wires rising, of
+-- smaller
 -- cost; then it is short
 pub record IsTurn (board : Board) (numbers : List ℕ) (n : ℕ) (trees new : List (List ℕ)) : Type 0 where
   pub others : new ≡ slice_set trees n (tree_of new n)
@@ -39,16 +41,19 @@ ArePasses board numbers picks (suc k) trees new =
     (next : List (List ℕ)) × IsPass board numbers picks trees next × ArePasses board numbers picks k next new
 
 -- so many passes, each of which makes the cost smaller
-abbrev pub AreFallingPasses : Board → (numbers picks : List ℕ) → (passes : ℕ) → (trees new : List (List ℕ)) → Type 0
+abbrev pub AreFallingPasses : Board → (numbers picks : List ℕ) → (passes : ℕ) → (trees new : List (List ℕ))
+    → Type 0
 AreFallingPasses board numbers picks zero trees new = trees ≡ new
 AreFallingPasses board numbers picks (suc k) trees new =
     (next : List (List ℕ)) × IsPass board numbers picks trees next
     × (load_cost board next numbers < load_cost board trees numbers)
     × AreFallingPasses board numbers picks k next new
 
--- fewer than so many passes, each of which makes the cost smaller, lead from the trees to the new ones, over which a
+-- fewer than so many passes, each of which makes the cost smaller, lead from the trees to the new ones, over
+-- which a
 -- pass changes nothing
-pub record ComesToRest (board : Board) (numbers picks : List ℕ) (passes : ℕ) (trees new : List (List ℕ)) : Type 0 where
+pub record ComesToRest (board : Board) (numbers picks : List ℕ) (passes : ℕ)
+    (trees new : List (List ℕ)) : Type 0 where
   pub done : ℕ
   pub fewer : done < passes
   pub falling : AreFallingPasses board numbers picks done trees new

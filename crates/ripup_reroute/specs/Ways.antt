@@ -1,4 +1,5 @@
--- Lower bounds of walks to the goals that are left, the least entry of a table at a scale, and why they are true.
+-- Lower bounds of walks to the goals that are left, the least entry of a table at a scale, and why they are
+-- true.
 use Rattle.std.proofs.Common.{◌≡◌, ℕ, zero, suc, ◌*◌, ◌/◌, ◌^◌, ◌<◌, ◌≤◌, Bool, List, ap, ⊎_elim, arith}
 use Rattle.std.specs.Prelude.{slice_index, min}
 use Rattle.std.proofs.Math.Nat.{mul-le-mul_right}
@@ -25,13 +26,15 @@ abbrev pub IsAmong : (fpgas : List ℕ) → (count t : ℕ) → Type 0
 IsAmong fpgas count t = (i : ℕ) × (i < count) × (slice_index fpgas i ≡ t)
 
 -- the goals are among the first listed FPGAs, so many, and no walk to one of these is shorter than the bound
-pub record AreWays (board : Board) (wire_length : ℕ → ℕ) (goals : List Bool) (table : Table) (scale : ℕ) (fpgas : List ℕ) (count : ℕ) : Type 0 where
+pub record AreWays (board : Board) (wire_length : ℕ → ℕ) (goals : List Bool) (table : Table) (scale : ℕ)
+    (fpgas : List ℕ) (count : ℕ) : Type 0 where
   pub among : (g : ℕ) → IsGoal goals g → IsAmong fpgas count g
   pub long : (t f : ℕ) (es : List ℕ) → IsAmong fpgas count t → IsWalk board (AnyWire board) f es t
       → bound_at table scale t f ≤ length_of wire_length es
 
 -- no entry is less than the least
-pub least-at : (table : Table) (fpgas : List ℕ) (f n i : ℕ) → i < n → least_entry table fpgas f n ≤ entry_at table (slice_index fpgas i) f
+pub least-at : (table : Table) (fpgas : List ℕ) (f n i : ℕ) → i < n
+    → least_entry table fpgas f n ≤ entry_at table (slice_index fpgas i) f
 least-at table fpgas f zero i below = absurd (omega (arith, below))
 least-at table fpgas f (suc n) i below =
     ⊎_elim
@@ -42,7 +45,9 @@ least-at table fpgas f (suc n) i below =
     (cases_lt i n)
 
 -- so the least at the scale is at most as long as each walk to a goal
-pub ways-below : (board : Board) (wire_length : ℕ → ℕ) (goals : List Bool) (table : Table) (scale : ℕ) (fpgas : List ℕ) (count : ℕ) → AreWays board wire_length goals table scale fpgas count → IsLowerBound board (both_ways wire_length) goals (λ f. least_entry table fpgas f count * scale / 4096)
+pub ways-below : (board : Board) (wire_length : ℕ → ℕ) (goals : List Bool) (table : Table) (scale : ℕ)
+    (fpgas : List ℕ) (count : ℕ) → AreWays board wire_length goals table scale fpgas count
+    → IsLowerBound board (both_ways wire_length) goals (λ f. least_entry table fpgas f count * scale / 4096)
 ways-below board wire_length goals table scale fpgas count ways f es g total marked walk =
     let among = ways.among g marked in
     let way = arc_walk-to_walk board wire_length f es g total walk in

@@ -35,7 +35,8 @@ IsWithinNet board trees numbers n number =
     IsWithinWalks board (marginal_length trees numbers n) (source_of board n) (terminals_of board n) number
 
 -- the wires are another minimal tree for net n, shorter than its own at its marginal lengths
-pub record IsBetter (board : Board) (trees : List (List ℕ)) (numbers : List ℕ) (n : ℕ) (wires : List ℕ) : Type 0 where
+pub record IsBetter (board : Board) (trees : List (List ℕ)) (numbers : List ℕ) (n : ℕ)
+    (wires : List ℕ) : Type 0 where
   pub minimal : IsMinimalTree board wires (terminals_of board n)
   pub rising : IsStrictlyIncreasing wires
   pub there : All (λ e. e < length board.wires) wires
@@ -49,11 +50,14 @@ pub record IsGrown (graph : Graph) (wire_length : ℕ → ℕ) (terminals wires 
   pub there : All (λ e. e < length graph.wires) wires
   pub long : total ≡ length_of wire_length wires
 
--- a tree below the cap has grown, or there is none; walks from the start to the terminals are at least as long as the
+-- a tree below the cap has grown, or there is none; walks from the start to the terminals are at least as
+-- long as the
 -- tree, or else as the cap
 abbrev pub IsGrowth : Graph → (wire_length : ℕ → ℕ) → (start : ℕ) → (terminals : List ℕ) → (cap : ℕ)
     → (wires : List ℕ) → Option ℕ → Type 0
-IsGrowth graph wire_length start terminals cap wires (Some total) = IsGrown graph wire_length terminals wires total
+IsGrowth graph wire_length start terminals cap wires (Some total) =
+    IsGrown graph wire_length terminals wires total
     × (total < cap) × IsWithinWalks (board_of graph) wire_length start terminals total
-IsGrowth graph wire_length start terminals cap wires None = IsWithinWalks (board_of graph) wire_length start terminals cap
+IsGrowth graph wire_length start terminals cap wires None =
+    IsWithinWalks (board_of graph) wire_length start terminals cap
     × (2 ^ 64 - 2 ^ 51 ≤ cap → (board : Board) → graph ≡ graph_of board → ¬ IsConnectable board terminals)

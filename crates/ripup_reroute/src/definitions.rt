@@ -4,7 +4,8 @@ ghost use Rattle.ripup_reroute.specs.Samples.{crossing, crowded, spread};
 ghost use Rattle.ripup_reroute.specs.Rerouting.{IsSettledFor};
 ghost use Rattle.ripup_reroute.specs.Turns.{IsTurn, IsPass, ArePasses, ComesToRest};
 
-/// In its turn a net leaves a wire that it shares for one that is free, and can neither stay nor go back to the shared one.
+/// In its turn a net leaves a wire that it shares for one that is free, and can neither stay nor go back to
+/// the shared one.
 fn a_turn_leads_to_a_free_wire()
     ensures moves { IsTurn crossing (1 ∷ 1 ∷ []) 1 crowded spread }
     ensures stays { ¬ IsTurn crossing (1 ∷ 1 ∷ []) 1 crowded crowded }

@@ -13,9 +13,9 @@ use shortest_forest::NoBound;
 use std::alloc::AllocError;
 use steiner_build::TreeBuilder;
 
-/// Grows trees of the terminals from so many of them in turn, the first one first, each shorter than the best so far and
-/// than `cap`. Answers the length of the best, whose wires are `found` then. None where walks from the first terminal to
-/// the others are together at least as long as the cap.
+/// Grows trees of the terminals from so many of them in turn, the first one first, each shorter than the best
+/// so far and than `cap`. Answers the length of the best, whose wires are `found` then. None where walks from
+/// the first terminal to the others are together at least as long as the cap.
 pub(crate) fn grow_best(
     graph: &BoardGraph,
     lengths: &Marginals,
@@ -28,7 +28,8 @@ pub(crate) fn grow_best(
     requires covered { length graph.now.wires ≡ length lengths.now.loads.now }
     requires table { IsTable (board_of graph.now) tools.old.table }
     requires part { scale ≤ 4096 }
-    requires scaled { IsScaled tools.old.table scale (λ e. 2 * slice_index lengths.now.loads.now e + lengths.now.own) }
+    requires scaled { IsScaled tools.old.table scale (λ e. 2 * slice_index lengths.now.loads.now e
+        + lengths.now.own) }
     requires there { All (λ t. t < graph.now.fpgas) terminals.now }
     requires some { 0 < starts }
     requires starts { starts ≤ length terminals.now }
@@ -37,7 +38,8 @@ pub(crate) fn grow_best(
     ensures builder { tools.new.builder.fpgas ≡ tools.old.builder.fpgas }
     ensures table { tools.new.table ≡ tools.old.table }
     ensures grown { IfOk result (IsGrowth graph.now
-        (λ e. 2 * slice_index lengths.now.loads.now e + lengths.now.own) (slice_index terminals.now 0) terminals.now cap
+        (λ e. 2 * slice_index lengths.now.loads.now e + lengths.now.own) (slice_index terminals.now 0)
+        terminals.now cap
         tools.new.found.items) }
 {
     let mut least = cap;
@@ -66,7 +68,8 @@ fn grow_and_keep(
     requires covered { length graph.now.wires ≡ length lengths.now.loads.now }
     requires table { IsTable (board_of graph.now) tools.old.table }
     requires part { scale ≤ 4096 }
-    requires scaled { IsScaled tools.old.table scale (λ e. 2 * slice_index lengths.now.loads.now e + lengths.now.own) }
+    requires scaled { IsScaled tools.old.table scale (λ e. 2 * slice_index lengths.now.loads.now e
+        + lengths.now.own) }
     requires there { All (λ t. t < graph.now.fpgas) terminals.now }
     requires start { Contains terminals.now start }
     requires cap { cap ≤ 2 ^ 64 - 2 ^ 51 }
@@ -74,7 +77,8 @@ fn grow_and_keep(
     ensures builder { tools.new.builder.fpgas ≡ tools.old.builder.fpgas }
     ensures table { tools.new.table ≡ tools.old.table }
     ensures grown { IfOk result (IsGrowth graph.now
-        (λ e. 2 * slice_index lengths.now.loads.now e + lengths.now.own) start terminals.now cap tools.new.found.items) }
+        (λ e. 2 * slice_index lengths.now.loads.now e + lengths.now.own) start terminals.now cap
+        tools.new.found.items) }
     ensures kept { IfOk result (λ grown. IfNone grown (tools.new.found.items ≡ tools.old.found.items)) }
 {
     let grown = grow_from(
@@ -117,18 +121,25 @@ pub(crate) fn grow_from(
     requires covered { length graph.now.wires ≡ length lengths.now.loads.now }
     requires table { IsTable (board_of graph.now) table.now }
     requires part { scale ≤ 4096 }
-    requires scaled { IsScaled table.now scale (λ e. 2 * slice_index lengths.now.loads.now e + lengths.now.own) }
+    requires scaled { IsScaled table.now scale (λ e. 2 * slice_index lengths.now.loads.now e
+        + lengths.now.own) }
     requires there { All (λ t. t < graph.now.fpgas) terminals.now }
     requires start { Contains terminals.now start }
     requires cap { cap ≤ 2 ^ 64 - 2 ^ 51 }
     requires builder { builder.old.fpgas ≡ graph.now.fpgas }
     ensures builder { builder.new.fpgas ≡ builder.old.fpgas }
     ensures grown { IfOk result (IsGrowth graph.now
-        (λ e. 2 * slice_index lengths.now.loads.now e + lengths.now.own) start terminals.now cap builder.new.wires) }
+        (λ e. 2 * slice_index lengths.now.loads.now e + lengths.now.own) start terminals.now cap
+        builder.new.wires) }
 {
+    // A copy of its own: the search may keep its fields at hand while it writes labels.
+    let near = Marginals {
+        loads: lengths.loads,
+        own: lengths.own,
+    };
     if terminals.len() > MOST_BOUNDED || !table.is_used() {
-        return builder.grow(graph, lengths, &mut NoBound, terminals, start, cap);
+        return builder.grow(graph, &near, &mut NoBound, terminals, start, cap);
     }
     let mut bounds = WayBounds::new(table, scale, terminals, start);
-    builder.grow(graph, lengths, &mut bounds, terminals, start, cap)
+    builder.grow(graph, &near, &mut bounds, terminals, start, cap)
 }

@@ -1,5 +1,5 @@
-//! Rip-up and reroute: one net at a time is taken off its wires and gets another tree beside what crowds the others,
-//! where that makes the cost of the loads smaller.
+//! Rip-up and reroute: one net at a time is taken off its wires and gets another tree beside what crowds the
+//! others, where that makes the cost of the loads smaller.
 #![tactic(auto)]
 
 #[cfg(test)]

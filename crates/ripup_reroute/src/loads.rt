@@ -9,8 +9,8 @@ ghost use Rattle.ripup_reroute.specs.Working.{AreLoads, AreNumbers, IsAdded};
 use std::alloc::{AllocError, Global};
 use tdm_problem::{Problem, Trees};
 
-/// The load of each wire: the sum of the numbers of the nets whose tree has it. One pass over all trees. The trees are
-/// for the problem, with a number for each net, at most 2^30. The only error is want of memory.
+/// The load of each wire: the sum of the numbers of the nets whose tree has it. One pass over all trees. The
+/// trees are for the problem, with a number for each net, at most 2^30. The only error is want of memory.
 pub fn loads_of(
     alloc: Global,
     problem: &Problem,

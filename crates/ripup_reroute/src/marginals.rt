@@ -3,8 +3,8 @@ ghost use Rattle.std.specs.Prelude.{◌≡◌, ℕ, ◌+◌, ◌-◌, ◌*◌, �
 
 use shortest_forest::{Lengths, MOST_CAP};
 
-/// The marginal lengths of wires for a net with a number of its own, which the loads do not count: twice the load of
-/// the wire, and the number.
+/// The marginal lengths of wires for a net with a number of its own, which the loads do not count: twice the
+/// load of the wire, and the number.
 #[derive(Drop)]
 pub(crate) struct Marginals<'a> {
     pub(crate) loads: &'a [u64],
@@ -28,7 +28,8 @@ impl Lengths for Marginals<'_> {
 pub(crate) fn capped_length(marginals: &Marginals, wires: &[u32]) -> u64
     requires there { All (λ e. e < length marginals.now.loads.now) wires.now }
     ensures capped { result ≤ 2 ^ 64 - 2 ^ 51 }
-    ensures within { result ≤ sum_by (λ e. 2 * slice_index marginals.now.loads.now e + marginals.now.own) wires.now }
+    ensures within { result ≤ sum_by (λ e. 2 * slice_index marginals.now.loads.now e + marginals.now.own)
+        wires.now }
     ensures exact { result < 2 ^ 64 - 2 ^ 51
         → result ≡ sum_by (λ e. 2 * slice_index marginals.now.loads.now e + marginals.now.own) wires.now }
 {

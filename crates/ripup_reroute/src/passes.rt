@@ -31,15 +31,15 @@ const THOROUGH: Effort = Effort {
     several_starts: true,
 };
 
-/// So many passes of turns over the picked nets, in their order, with a number at most 2^30 for each net. The load of
-/// a wire is the sum of the numbers of the nets whose tree has it, and the cost is the sum of the squares of the
-/// loads. The graph is the problem's, each net has a minimal tree, and each pick is a net. In its turn a net is taken
-/// off its wires, and keeps its tree or gets another minimal tree that makes the cost smaller; after it the tree is no
-/// longer, at the marginal lengths, than the least walks from the net's first FPGA to its others together. A pass that
-/// replaces no tree is the last: then it is settled. Picks may repeat, and there may be none. The only error is want of
-/// memory: then the trees are minimal, those of nets that were not picked are as they were, and the cost has not
-/// risen. Method: rip-up and reroute by marginal cost; a tree joins the nearest terminal, again and again
-/// (Takahashi and Matsuyama, 1980).
+/// So many passes of turns over the picked nets, in their order, with a number at most 2^30 for each net. The
+/// load of a wire is the sum of the numbers of the nets whose tree has it, and the cost is the sum of the
+/// squares of the loads. The graph is the problem's, each net has a minimal tree, and each pick is a net. In
+/// its turn a net is taken off its wires, and keeps its tree or gets another minimal tree that makes the cost
+/// smaller; after it the tree is no longer, at the marginal lengths, than the least walks from the net's
+/// first FPGA to its others together. A pass that replaces no tree is the last: then it is settled. Picks may
+/// repeat, and there may be none. The only error is want of memory: then the trees are minimal, those of nets
+/// that were not picked are as they were, and the cost has not risen. Method: rip-up and reroute by marginal
+/// cost; a tree joins the nearest terminal, again and again (Takahashi and Matsuyama, 1980).
 pub fn reroute(
     alloc: Global,
     problem: &Problem,
@@ -56,7 +56,8 @@ pub fn reroute(
     requires there { All (λ n. n < length problem.now.nets) picks.now }
     ensures rerouted { AreRerouted problem.now s.now picks.now trees.old trees.new }
     ensures passes { IfOk result (λ r. ArePasses problem.now s.now picks.now passes trees.old trees.new) }
-    ensures outcome { IfOk result (λ r. IsOutcome problem.now s.now picks.now passes trees.old trees.new r.settled r.phi) }
+    ensures outcome { IfOk result (λ r. IsOutcome problem.now s.now picks.now passes trees.old trees.new
+        r.settled r.phi) }
 {
     reroute_with(alloc, problem, graph, trees, s, picks, passes, THOROUGH)
 }
@@ -79,7 +80,8 @@ pub fn reroute_with(
     requires there { All (λ n. n < length problem.now.nets) picks.now }
     ensures rerouted { AreRerouted problem.now s.now picks.now trees.old trees.new }
     ensures passes { IfOk result (λ r. ArePasses problem.now s.now picks.now passes trees.old trees.new) }
-    ensures outcome { IfOk result (λ r. IsOutcome problem.now s.now picks.now passes trees.old trees.new r.settled r.phi) }
+    ensures outcome { IfOk result (λ r. IsOutcome problem.now s.now picks.now passes trees.old trees.new
+        r.settled r.phi) }
 {
     let mut loads = loads_of(alloc, problem, trees, s)?;
     let heavy = if effort.several_starts {
@@ -103,8 +105,8 @@ pub fn reroute_with(
     Ok(Rerouted { settled, phi })
 }
 
-/// Passes, at most so many: one that replaces no tree is the last. Answers whether there was such a pass. Where
-/// memory is wanting, the loads are of no use.
+/// Passes, at most so many: one that replaces no tree is the last. Answers whether there was such a pass.
+/// Where memory is wanting, the loads are of no use.
 fn all_passes(
     problem: &Problem,
     graph: &BoardGraph,
@@ -126,7 +128,8 @@ fn all_passes(
     requires table { IsTableAt (board_of graph.now) loads.old.items tools.old.table }
     ensures rerouted { AreRerouted problem.now numbers.now picks.now trees.old trees.new }
     ensures loads { OnOk result (AreLoads problem.now trees.new numbers.now loads.new.items) }
-    ensures settled { IfOk result (λ settled. settled ≡ true → IsSettled problem.now numbers.now picks.now trees.new) }
+    ensures settled { IfOk result (λ settled. settled ≡ true
+        → IsSettled problem.now numbers.now picks.now trees.new) }
     ensures rest { IfOk result (λ settled. settled ≡ true
         → ComesToRest problem.now numbers.now picks.now passes trees.old trees.new) }
     ensures falling { IfOk result (λ settled. settled ≡ false
@@ -141,8 +144,8 @@ fn all_passes(
     Ok(false)
 }
 
-/// A pass: a turn of each picked net, in order. Answers whether a tree was replaced. Where memory is wanting, the loads
-/// are of no use.
+/// A pass: a turn of each picked net, in order. Answers whether a tree was replaced. Where memory is wanting,
+/// the loads are of no use.
 fn pass(
     problem: &Problem,
     graph: &BoardGraph,

@@ -29,9 +29,10 @@ const NETS_PER_FPGA: u32 = 20;
 /// No entry is greater.
 pub(crate) const MOST_ENTRY: u64 = 1 << 51;
 
-/// The distances between all FPGAs at the lengths of a moment, twice the loads, and a scale in 4096ths: each wire is at
-/// least so many 4096ths as long as it was then. So an entry times the scale, over 4096, is a lower bound of walks, however
-/// the loads have changed. There are 8 bytes for each two FPGAs, and none where a board has few nets.
+/// The distances between all FPGAs at the lengths of a moment, twice the loads, and a scale in 4096ths: each
+/// wire is at least so many 4096ths as long as it was then. So an entry times the scale, over 4096, is a
+/// lower bound of walks, however the loads have changed. There are 8 bytes for each two FPGAs, and none where
+/// a board has few nets.
 #[derive(Drop)]
 pub(crate) struct Table {
     fpgas: u32,
@@ -91,6 +92,9 @@ impl Table {
     {
         if self.turns_left > 0 {
             self.turns_left -= 1;
+            return Ok(());
+        }
+        if self.scale >= WORN_IN_PASS {
             return Ok(());
         }
         self.renew_below(WORN_IN_PASS, graph, loads)?;
@@ -248,7 +252,8 @@ fn write_row(distances: &mut Vec<u64>, search: &Search, place: usize, fpgas: u32
     requires small { All (λ d. d ≤ 2 ^ 51) distances.old.items }
     ensures size { length distances.new.items ≡ length distances.old.items }
     ensures small { All (λ d. d ≤ 2 ^ 51) distances.new.items }
-    ensures before { (i : ℕ) → i < place → slice_index distances.new.items i ≡ slice_index distances.old.items i }
+    ensures before { (i : ℕ) → i < place → slice_index distances.new.items i
+        ≡ slice_index distances.old.items i }
     ensures row { (f : ℕ) → f < fpgas → slice_index distances.new.items (place + f)
         ≡ row_entry (distance_in (label_at search.now f)) }
 {

@@ -166,8 +166,8 @@ fn picks_may_repeat_and_numbers_may_be_extreme(rt: HostRuntime) -> Result<(), Fa
     Ok(())
 }
 
-/// Three FPGAs in a ring, and 80 nets on all of them, which all begin on the first two wires: so many that there is a
-/// table of lower bounds. The first three nets are rerouted.
+/// Three FPGAs in a ring, and 80 nets on all of them, which all begin on the first two wires: so many that
+/// there is a table of lower bounds. The first three nets are rerouted.
 fn reroute_crowd(alloc: Global, effort: Effort) -> Result<Rerouted, AllocError> {
     let mut draft = ProblemDraft::new(alloc, 3);
     draft.push_wire(Wire { a: 0, b: 1 })?;

@@ -32,7 +32,8 @@ impl Tools {
         heavy: u64,
     ) -> Result<Tools, AllocError>
         ensures builder { IfOk result (λ tools. tools.builder.fpgas ≡ graph.now.fpgas) }
-        ensures table { IfOk result (λ tools. (loads : List ℕ) → IsTableAt (board_of graph.now) loads tools.table) }
+        ensures table { IfOk result (λ tools. (loads : List ℕ)
+            → IsTableAt (board_of graph.now) loads tools.table) }
     {
         Ok(Tools {
             builder: TreeBuilder::new(alloc, graph)?,

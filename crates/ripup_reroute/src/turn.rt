@@ -20,10 +20,10 @@ use tdm_problem::{Problem, Trees};
 /// Trees are grown from at most so many terminals.
 const MOST_STARTS: usize = 41;
 
-/// The turn of net `n`: it gets another minimal tree where that makes the cost of the loads smaller. Answers whether
-/// it did. A net with the number 0 keeps its tree. A lazy turn does not look for another where the tree is no longer
-/// than walks from the first FPGA to the others. Where memory is wanting, the trees are unchanged, and the loads and the
-/// tools are of no use.
+/// The turn of net `n`: it gets another minimal tree where that makes the cost of the loads smaller. Answers
+/// whether it did. A net with the number 0 keeps its tree. A lazy turn does not look for another where the
+/// tree is no longer than walks from the first FPGA to the others. Where memory is wanting, the trees are
+/// unchanged, and the loads and the tools are of no use.
 pub(crate) fn turn(
     problem: &Problem,
     graph: &BoardGraph,
@@ -51,7 +51,8 @@ pub(crate) fn turn(
     ensures moved { IfOk result (λ moved. moved ≡ true
         → load_cost problem.now trees.new numbers.now < load_cost problem.now trees.old numbers.now) }
     ensures kept { IfOk result (λ moved. moved ≡ false → trees.new ≡ trees.old) }
-    ensures settled { IfOk result (λ moved. moved ≡ false → IsSettledFor problem.now numbers.now n trees.new) }
+    ensures settled { IfOk result (λ moved. moved ≡ false
+        → IsSettledFor problem.now numbers.now n trees.new) }
 {
     let own = numbers[n as usize];
     let tree = trees.wires_of(n);
@@ -70,9 +71,9 @@ pub(crate) fn turn(
     Ok(false)
 }
 
-/// Looks for a minimal tree of net `n` that is shorter than its own at its marginal lengths, beside loads that do not
-/// count the net. Answers whether there is one, which is then `found` of the tools. If not, the tree of the net is no
-/// longer than the least walks from its first FPGA to its others together.
+/// Looks for a minimal tree of net `n` that is shorter than its own at its marginal lengths, beside loads
+/// that do not count the net. Answers whether there is one, which is then `found` of the tools. If not, the
+/// tree of the net is no longer than the least walks from its first FPGA to its others together.
 fn find_better(
     problem: &Problem,
     graph: &BoardGraph,
@@ -91,7 +92,8 @@ fn find_better(
     requires loads { AreLoads problem.now (without_net trees.now n) numbers.now loads.now }
     requires builder { tools.old.builder.fpgas ≡ graph.now.fpgas }
     requires table { IsTable (board_of graph.now) tools.old.table }
-    requires scaled { IsScaled tools.old.table tools.old.table.scale (λ e. 2 * load_of trees.now numbers.now e) }
+    requires scaled { IsScaled tools.old.table tools.old.table.scale
+        (λ e. 2 * load_of trees.now numbers.now e) }
     ensures builder { tools.new.builder.fpgas ≡ tools.old.builder.fpgas }
     ensures table { tools.new.table ≡ tools.old.table }
     ensures better { IfOk result (λ found. found ≡ true

@@ -10,13 +10,13 @@ use crate::growing::grow_from;
 use crate::marginals::Marginals;
 use crate::table::Table;
 use board_graph::BoardGraph;
-use shortest_forest::MOST_CAP;
+use shortest_forest::{Lengths, MOST_CAP};
 use std::alloc::AllocError;
 use steiner_build::TreeBuilder;
 
-/// Whether walks from the first terminal to the others are known to be together at least as long as `cap`, by their
-/// lower bounds, and in a lazy turn, where these come near, by distances too. A tree that is no longer than such walks
-/// may stay.
+/// Whether walks from the first terminal to the others are known to be together at least as long as `cap`, by
+/// their lower bounds, of two terminals by the first wires of walks too, and of more in a lazy turn, where
+/// the bounds come near, by distances. A tree that is no longer than such walks may stay.
 pub(crate) fn walks_reach(
     graph: &BoardGraph,
     lengths: &Marginals,
@@ -30,14 +30,16 @@ pub(crate) fn walks_reach(
     requires covered { length graph.now.wires ≡ length lengths.now.loads.now }
     requires table { IsTable (board_of graph.now) table.now }
     requires part { scale ≤ 4096 }
-    requires scaled { IsScaled table.now scale (λ e. 2 * slice_index lengths.now.loads.now e + lengths.now.own) }
+    requires scaled { IsScaled table.now scale (λ e. 2 * slice_index lengths.now.loads.now e
+        + lengths.now.own) }
     requires some { 0 < length terminals.now }
     requires there { All (λ t. t < graph.now.fpgas) terminals.now }
     requires cap { cap ≤ 2 ^ 64 - 2 ^ 51 }
     requires builder { builder.old.fpgas ≡ graph.now.fpgas }
     ensures builder { builder.new.fpgas ≡ builder.old.fpgas }
     ensures reach { IfOk result (λ reach. reach ≡ true → IsWithinWalks (board_of graph.now)
-        (λ e. 2 * slice_index lengths.now.loads.now e + lengths.now.own) (slice_index terminals.now 0) terminals.now
+        (λ e. 2 * slice_index lengths.now.loads.now e + lengths.now.own) (slice_index terminals.now 0)
+        terminals.now
         cap) }
     ensures below { IfOk result (λ reach. reach ≡ true → cap < 2 ^ 64 - 2 ^ 51) }
 {
@@ -52,7 +54,13 @@ pub(crate) fn walks_reach(
     if sum >= cap {
         return Ok(true);
     }
-    if pair || cap - sum > sum / 8 {
+    if pair {
+        let first = terminals[0];
+        let second = terminals[1];
+        let reach = first_wires_reach(graph, lengths, table, scale, first, second, cap);
+        return Ok(reach);
+    }
+    if cap - sum > sum / 8 {
         return Ok(false);
     }
     let least = least_sum(graph, lengths, table, scale, terminals, sum, cap, builder)?;
@@ -67,7 +75,8 @@ fn bound_sum(table: &Table, scale: u64, terminals: &[u32], cap: u64) -> u64
     requires some { 0 < length terminals.now }
     requires there { All (λ t. t < table.now.fpgas) terminals.now }
     ensures capped { result ≤ cap }
-    ensures within { result ≤ sum_by (λ t. bound_at table.now scale t (slice_index terminals.now 0)) terminals.now }
+    ensures within { result ≤ sum_by (λ t. bound_at table.now scale t (slice_index terminals.now 0))
+        terminals.now }
     ensures exact { result < cap
         → result ≡ sum_by (λ t. bound_at table.now scale t (slice_index terminals.now 0)) terminals.now }
 {
@@ -83,8 +92,8 @@ fn bound_sum(table: &Table, scale: u64, terminals: &[u32], cap: u64) -> u64
     sum
 }
 
-/// Raises the lower bounds of walks from the first terminal, which sum to `sum`, to distances one by one, until the sum
-/// is the cap. Answers the last sum.
+/// Raises the lower bounds of walks from the first terminal, which sum to `sum`, to distances one by one,
+/// until the sum is the cap. Answers the last sum.
 fn least_sum(
     graph: &BoardGraph,
     lengths: &Marginals,
@@ -99,16 +108,19 @@ fn least_sum(
     requires table { IsTable (board_of graph.now) table.now }
     requires used { 0 < length table.now.distances.items }
     requires part { scale ≤ 4096 }
-    requires scaled { IsScaled table.now scale (λ e. 2 * slice_index lengths.now.loads.now e + lengths.now.own) }
+    requires scaled { IsScaled table.now scale (λ e. 2 * slice_index lengths.now.loads.now e
+        + lengths.now.own) }
     requires some { 0 < length terminals.now }
     requires there { All (λ t. t < graph.now.fpgas) terminals.now }
-    requires sum { sum ≡ sum_by (λ t. bound_at table.now scale t (slice_index terminals.now 0)) terminals.now }
+    requires sum { sum ≡ sum_by (λ t. bound_at table.now scale t (slice_index terminals.now 0))
+        terminals.now }
     requires below { sum < cap }
     requires cap { cap ≤ 2 ^ 64 - 2 ^ 51 }
     requires builder { builder.old.fpgas ≡ graph.now.fpgas }
     ensures builder { builder.new.fpgas ≡ builder.old.fpgas }
     ensures least { IfOk result (IsWithinWalks (board_of graph.now)
-        (λ e. 2 * slice_index lengths.now.loads.now e + lengths.now.own) (slice_index terminals.now 0) terminals.now) }
+        (λ e. 2 * slice_index lengths.now.loads.now e + lengths.now.own) (slice_index terminals.now 0)
+        terminals.now) }
 {
     let first = terminals[0];
     let mut known = 0;
@@ -124,6 +136,43 @@ fn least_sum(
     Ok(known + left)
 }
 
+/// Whether walks from FPGA `a` to another, `b`, are known to be at least as long as `cap` by the wires at
+/// `a`: each wire and the lower bound from its other end on reach the cap together. It mostly spares a search
+/// that finds nothing.
+fn first_wires_reach(
+    graph: &BoardGraph,
+    lengths: &Marginals,
+    table: &Table,
+    scale: u64,
+    a: u32,
+    b: u32,
+    cap: u64,
+) -> bool
+    requires covered { length graph.now.wires ≡ length lengths.now.loads.now }
+    requires table { IsTable (board_of graph.now) table.now }
+    requires used { 0 < length table.now.distances.items }
+    requires part { scale ≤ 4096 }
+    requires scaled { IsScaled table.now scale
+        (λ e. 2 * slice_index lengths.now.loads.now e + lengths.now.own) }
+    requires a { a < graph.now.fpgas }
+    requires b { b < graph.now.fpgas }
+    ensures { result ≡ true → (es : List ℕ)
+        → IsWalk (board_of graph.now) (AnyWire (board_of graph.now)) a es b
+        → cap ≤ length_of (λ e. 2 * slice_index lengths.now.loads.now e + lengths.now.own) es }
+{
+    if a == b {
+        return false;
+    }
+    for neighbour in graph.neighbours(a) {
+        let length = lengths.len_of(neighbour.wire);
+        let bound = table.bound(scale, b, neighbour.fpga);
+        if length + bound < cap {
+            return false;
+        }
+    }
+    true
+}
+
 /// The distance between two FPGAs, or the cap if that is less.
 fn distance_within(
     graph: &BoardGraph,
@@ -137,17 +186,23 @@ fn distance_within(
 ) -> Result<u64, AllocError>
     requires covered { length graph.now.wires ≡ length lengths.now.loads.now }
     requires table { IsTable (board_of graph.now) table.now }
+    requires used { 0 < length table.now.distances.items }
     requires part { scale ≤ 4096 }
-    requires scaled { IsScaled table.now scale (λ e. 2 * slice_index lengths.now.loads.now e + lengths.now.own) }
+    requires scaled { IsScaled table.now scale (λ e. 2 * slice_index lengths.now.loads.now e
+        + lengths.now.own) }
     requires a { a < graph.now.fpgas }
     requires b { b < graph.now.fpgas }
     requires cap { cap ≤ 2 ^ 64 - 2 ^ 51 }
     requires builder { builder.old.fpgas ≡ graph.now.fpgas }
     ensures builder { builder.new.fpgas ≡ builder.old.fpgas }
     ensures capped { IfOk result (λ least. least ≤ cap) }
-    ensures least { IfOk result (λ least. (es : List ℕ) → IsWalk (board_of graph.now) (AnyWire (board_of graph.now)) a es b
+    ensures least { IfOk result (λ least. (es : List ℕ)
+        → IsWalk (board_of graph.now) (AnyWire (board_of graph.now)) a es b
         → least ≤ length_of (λ e. 2 * slice_index lengths.now.loads.now e + lengths.now.own) es) }
 {
+    if first_wires_reach(graph, lengths, table, scale, a, b, cap) {
+        return Ok(cap);
+    }
     match grow_from(graph, lengths, table, scale, &[a, b], a, cap, builder)? {
         Some(distance) => Ok(distance),
         None => Ok(cap),

@@ -12,8 +12,8 @@ use steiner_build::TreeBounds;
 /// Trees of more terminals are grown without lower bounds, which would cost more than they spare.
 pub(crate) const MOST_BOUNDED: usize = 6;
 
-/// Lower bounds of walks to the nearest of the terminals that a tree has not joined yet, at a scale that the lengths
-/// keep.
+/// Lower bounds of walks to the nearest of the terminals that a tree has not joined yet, at a scale that the
+/// lengths keep.
 #[derive(Drop)]
 pub(crate) struct WayBounds<'a> {
     table: &'a Table,

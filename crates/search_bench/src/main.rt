@@ -26,9 +26,10 @@ const TURNS: u32 = 10;
 /// So many rounds are rerouted.
 const ROUNDS: u32 = 8;
 
-/// What the searches say of a problem, in one number that shows that the work was done: of `forests` the distances of
-/// the last FPGA from each root, of `trees` the lengths of the trees, added up modulo 2^64; of `passes` and `rounds`
-/// the cost of the loads in units of 2^20. Of `read` and `starts` it is 0, and other words are refused.
+/// What the searches say of a problem, in one number that shows that the work was done: of `forests` the
+/// distances of the last FPGA from each root, of `trees` the lengths of the trees, added up modulo 2^64; of
+/// `passes` and `rounds` the cost of the loads in units of 2^20. Of `read` and `starts` it is 0, and other
+/// words are refused.
 fn run(alloc: Global, what: &str, problem: &Problem) -> anyhow::Result<u64> {
     let graph = BoardGraph::of(alloc, problem)?;
     let lengths = Mixed(mixed_lengths(alloc, graph.wires())?);
@@ -44,8 +45,8 @@ fn run(alloc: Global, what: &str, problem: &Problem) -> anyhow::Result<u64> {
     Ok(sum)
 }
 
-/// The words are what is run and the file of a board. `read` is for the time that reading takes; `starts` makes the trees
-/// with which `passes`, one round of rerouting, and `rounds` begin.
+/// The words are what is run and the file of a board. `read` is for the time that reading takes; `starts`
+/// makes the trees with which `passes`, one round of rerouting, and `rounds` begin.
 fn main(rt: HostRuntime) -> anyhow::Result<()> {
     let alloc = rt.alloc();
     let mut words = env::args(&rt)?;

@@ -34,7 +34,8 @@ impl Lengths for Hops {
     }
 }
 
-/// Adds a tree of few wires that joins these terminals. Where no wires join them, the answer is that of want of memory.
+/// Adds a tree of few wires that joins these terminals. Where no wires join them, the answer is that of want
+/// of memory.
 fn push_tree(
     trees: &mut Trees,
     builder: &mut TreeBuilder,
@@ -79,8 +80,8 @@ fn first_trees(alloc: Global, problem: &Problem, graph: &BoardGraph) -> Result<T
     Ok(trees)
 }
 
-/// The number of a net in a round: from 256 to 4,351, which the numbers of nets mix, and up to a quarter more, which
-/// changes from round to round.
+/// The number of a net in a round: from 256 to 4,351, which the numbers of nets mix, and up to a quarter
+/// more, which changes from round to round.
 fn number_of(n: u32, done: u32) -> u64
     ensures { result ≤ 2 ^ 30 }
 {
@@ -138,8 +139,8 @@ fn round(
     Ok((rerouted.phi >> 20 & 0xffff_ffff_ffff) as u64)
 }
 
-/// Makes a tree for each net and reroutes them for so many rounds. Answers the cost at the end in units of 2^20, and 0
-/// without a round.
+/// Makes a tree for each net and reroutes them for so many rounds. Answers the cost at the end in units of
+/// 2^20, and 0 without a round.
 pub(crate) fn reroute_often(
     alloc: Global,
     problem: &Problem,

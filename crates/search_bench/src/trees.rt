@@ -8,8 +8,8 @@ use std::alloc::{AllocError, Global};
 use steiner_build::TreeBuilder;
 use tdm_problem::Problem;
 
-/// Grows a tree for each net, from its source, and adds up their lengths modulo 2^64. Nets that no wires join count
-/// as 0.
+/// Grows a tree for each net, from its source, and adds up their lengths modulo 2^64. Nets that no wires join
+/// count as 0.
 pub(crate) fn grow_all<Q: Lengths>(
     alloc: Global,
     problem: &Problem,

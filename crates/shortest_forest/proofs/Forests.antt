@@ -6,8 +6,12 @@ use Rattle.shortest_forest.specs.BreadthFirst.{IsAt}
 use Rattle.shortest_forest.proofs.SameBoard.{HasHops-same}
 use Rattle.shortest_forest.proofs.HopLaws.{AreNearest, HasHops-made}
 
-pub IsHopForest-made : (graph : Graph) (reach : Reach) → IsGraph graph → reach.root < graph.fpgas → AreHops (board_of graph) reach.root reach.distances → ((f d : ℕ) → IsAt reach.distances f d → d < graph.fpgas) → AreNearest (board_of graph) reach.distances reach.parents → IsHopForest graph reach
+pub IsHopForest-made : (graph : Graph) (reach : Reach) → IsGraph graph → reach.root < graph.fpgas
+    → AreHops (board_of graph) reach.root reach.distances
+    → ((f d : ℕ) → IsAt reach.distances f d → d < graph.fpgas)
+    → AreNearest (board_of graph) reach.distances reach.parents → IsHopForest graph reach
 IsHopForest-made graph reach is_graph below hops few nearest = record {
-  on_board = λ board same. HasHops-same (board_of graph) board (ap (λ (g : Graph). g.wires) same) (ap (λ (g : Graph). g.fpgas) same) reach
+  on_board = λ board same. HasHops-same (board_of graph) board (ap (λ (g : Graph). g.wires) same)
+      (ap (λ (g : Graph). g.fpgas) same) reach
       (HasHops-made (board_of graph) reach hops is_graph.wires nearest below few);
 }

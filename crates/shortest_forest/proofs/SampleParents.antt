@@ -23,7 +23,11 @@ away (e ∷ es) walk = one-hop e es
 
 -- the middle is one hop away
 pub middle-hops : IsHopCount star 1 0 1
-middle-hops = record { walk = (0 ∷ [], (omega arith, (0, Links-sym star 0 0 1 (arm-links 0 1 (omega arith) refl), refl)), refl); least = away }
+middle-hops = record {
+  walk =
+      (0 ∷ [], (omega arith, (0, Links-sym star 0 0 1 (arm-links 0 1 (omega arith) refl), refl)), refl);
+  least = away;
+}
 
 -- the first arm is the parent wire of the middle
 pub middle-parent : IsParent star 1 0 0 1
@@ -48,7 +52,8 @@ end-parent e other there = record {
 -- nothing leads from one part of the board in two parts to the other
 pub no-walk : HasNoWalk split 0 2
 no-walk es walk =
-    let stays = walk-stays split (AnyWire split) (λ x. x < 2) (λ d a b there links here. part-kept d a b links here) 0 es 2 walk (omega arith) in
+    let stays = walk-stays split (AnyWire split) (λ x. x < 2)
+    (λ d a b there links here. part-kept d a b links here) 0 es 2 walk (omega arith) in
     omega (arith, stays)
 
 -- the chain of an end: its arm, and the first

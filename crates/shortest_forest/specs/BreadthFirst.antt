@@ -13,7 +13,8 @@ abbrev pub IsPassed : Board → List (Option ℕ) → ℕ → ℕ → Type 0
 IsPassed board distances f d = (e x : ℕ) → Links board e f x → (far : ℕ) × IsAt distances x far
     × (far ≤ d + 1)
 
--- the FPGAs with a distance are queued in the order of their distances from the first, and those before the head are passed
+-- the FPGAs with a distance are queued in the order of their distances from the first, and those before the
+-- head are passed
 pub record IsSearch (board : Board) (distances : List (Option ℕ)) (queue : List ℕ) (head : ℕ) : Type 0 where
   pub count : length distances ≡ board.fpgas
   pub some : 0 < length queue
@@ -30,7 +31,8 @@ pub record IsSearch (board : Board) (distances : List (Option ℕ)) (queue : Lis
       × IsWalk board (AnyWire board) (slice_index queue 0) es f × (length_of (λ _. 1) es ≡ d)
 
 -- FPGA f gets a distance and is queued, unless it has a distance
-pub record IsReached (f distance : ℕ) (distances distances' : List (Option ℕ)) (queue queue' : List ℕ) : Type 0 where
+pub record IsReached (f distance : ℕ) (distances distances' : List (Option ℕ))
+    (queue queue' : List ℕ) : Type 0 where
   pub known : (d : ℕ) → IsAt distances f d → (distances' ≡ distances) × (queue' ≡ queue)
   pub new : slice_index_or distances f None ≡ None
       → (distances' ≡ slice_set distances f (Some distance)) × (queue' ≡ queue ++ f ∷ [])

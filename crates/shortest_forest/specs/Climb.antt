@@ -14,7 +14,8 @@ abbrev pub IsMarked : List Bool → ℕ → Type 0
 IsMarked marks f = slice_index_or marks f false ≡ true
 
 -- the wires are the parent wires of the marked FPGAs, each once, and lead to FPGAs that are reached
-pub record IsCollected (board : Board) (reach : Reach) (marks : List Bool) (wires : List ℕ) (reached : ℕ → Type 0) : Type 0 where
+pub record IsCollected (board : Board) (reach : Reach) (marks : List Bool) (wires : List ℕ) (reached : ℕ
+    → Type 0) : Type 0 where
   pub count : length marks ≡ board.fpgas
   pub distinct : AllPairs (λ d e. d ≢ e) wires
   pub inside : (f e : ℕ) → IsMarked marks f → parent_of reach f ≡ Some e → Contains wires e

@@ -46,7 +46,8 @@ IsWaiting s f key = Contains s.queue (record { 0 = (key, f) })
 abbrev pub WaitsInTime : Labels → (ℕ → ℕ) → ℕ → ℕ → Type 0
 WaitsInTime s bound f distance = (key : ℕ) × IsWaiting s f key × (key ≤ distance + bound f)
 
--- a label of this distance at FPGA v is not needed: v has one that is no longer, or no walk on from there is short enough
+-- a label of this distance at FPGA v is not needed: v has one that is no longer, or no walk on from there is
+-- short enough
 abbrev pub IsNoShorter : Labels → (ℕ → ℕ) → ℕ → ℕ → ℕ → Type 0
 IsNoShorter s bound cap v distance = ((near : ℕ) × IsAtLabel s v near × (near ≤ distance))
     ⊎ (cap ≤ distance + bound v)
@@ -62,7 +63,8 @@ IsWayBack board s f [] source = (f ≡ source) × IsSource s f
 IsWayBack board s f (e ∷ es) source = (distance : ℕ) × HasLabel s f distance (Some e)
     × ((u : ℕ) × Links board e f u × IsWayBack board s u es source)
 
--- labels are lengths of ways from sources, at least, and what waits is an FPGA with a label, no longer than its key
+-- labels are lengths of ways from sources, at least, and what waits is an FPGA with a label, no longer than
+-- its key
 pub record IsLabelled (board : Board) (arcs : Arcs) (s : Labels) : Type 0 where
   pub count : length s.labels ≡ board.fpgas
   pub marks : length s.goals ≡ board.fpgas
@@ -73,7 +75,8 @@ pub record IsLabelled (board : Board) (arcs : Arcs) (s : Labels) : Type 0 where
   pub shorter : (f d e u : ℕ) → HasLabel s f d (Some e) → Links board e f u
       → (near : ℕ) × IsAtLabel s u near × (near + arcs e u f ≤ d)
 
--- FPGA f, at this distance, waits in the queue, or no walk on from there is short enough, or it is settled and no goal
+-- FPGA f, at this distance, waits in the queue, or no walk on from there is short enough, or it is settled
+-- and no goal
 abbrev pub IsWaitingOrSettled : Board → Arcs → (ℕ → ℕ) → ℕ → Labels → ℕ → ℕ → Type 0
 IsWaitingOrSettled board arcs bound cap s f d =
     WaitsInTime s bound f d ⊎ ((cap ≤ d + bound f)
@@ -140,7 +143,8 @@ pub record GoesOn (old new : Labels) : Type 0 where
   pub work : work_left new ≤ work_left old
 
 -- the goal is settled at a distance below the cap, and no walk on from a label to a goal is shorter
-pub record IsNearest (board : Board) (arcs : Arcs) (bound : ℕ → ℕ) (cap : ℕ) (s : Labels) (goal : ℕ) : Type 0 where
+pub record IsNearest (board : Board) (arcs : Arcs) (bound : ℕ → ℕ) (cap : ℕ) (s : Labels)
+    (goal : ℕ) : Type 0 where
   pub goal_there : goal < board.fpgas
   pub marked : IsGoal s.goals goal
   pub distance : ℕ

@@ -4,7 +4,8 @@ use Rattle.tdm_problem.specs.Board.{Board}
 use Rattle.shortest_forest.specs.Arcs.{Arcs, IsArcWalk, IsLowerBound}
 use Rattle.shortest_forest.specs.Labels.{Labels, IsAtLabel, IsWayBack, IsLabelled, IsUnderWay, IsNearest}
 
--- the way back from a label, turned round, leads over the arcs from a source, and is no longer than the label says
+-- the way back from a label, turned round, leads over the arcs from a source, and is no longer than the label
+-- says
 abbrev pub WayLaw : Type 0
 WayLaw = (board : Board) (arcs : Arcs) (s : Labels) → IsLabelled board arcs s
     → (f distance : ℕ) (es : List ℕ) (source : ℕ) → IsAtLabel s f distance → IsWayBack board s f es source

@@ -8,13 +8,15 @@ use Rattle.shortest_forest.specs.Reach.{Reach, distance_of, parent_of, HasNoWalk
 
 -- wire e leads from FPGA f to one whose distance is less by the length of the wire
 abbrev pub LeadsNearerBy : Board → (ℕ → ℕ) → Reach → ℕ → ℕ → Type 0
-LeadsNearerBy board wire_length reach f e = (u : ℕ) × Links board e f u × ((d : ℕ) × (distance_of reach u ≡ Some d)
+LeadsNearerBy board wire_length reach f e = (u : ℕ) × Links board e f u
+    × ((d : ℕ) × (distance_of reach u ≡ Some d)
     × (distance_of reach f ≡ Some (d + wire_length e)))
 
 -- the wires lead from FPGA f to the root, each the parent wire of where it begins
 abbrev pub IsWayUp : Board → Reach → ℕ → List ℕ → Type 0
 IsWayUp board reach f [] = f ≡ reach.root
-IsWayUp board reach f (e ∷ es) = (parent_of reach f ≡ Some e) × ((u : ℕ) × Links board e f u × IsWayUp board reach u es)
+IsWayUp board reach f (e ∷ es) = (parent_of reach f ≡ Some e)
+    × ((u : ℕ) × Links board e f u × IsWayUp board reach u es)
 
 -- distances are the least lengths of walks from the root, and parent wires lead there
 pub record HasLeast (board : Board) (wire_length : ℕ → ℕ) (reach : Reach) : Type 0 where

@@ -30,7 +30,8 @@ pub record AreHops (board : Board) (source : ℕ) (distances : List (Option ℕ)
   pub exact : (f : ℕ) → f < board.fpgas
       → MatchOption (slice_index_or distances f None) (HasNoWalk board source f) (IsHopCount board source f)
 
--- the distances and parent wires are those of the board from the root, and each parent chain is shorter than the board has FPGAs
+-- the distances and parent wires are those of the board from the root, and each parent chain is shorter than
+-- the board has FPGAs
 pub record HasHops (board : Board) (reach : Reach) : Type 0 where
   pub root : reach.root < board.fpgas
   pub distances : AreHops board reach.root reach.distances

@@ -14,8 +14,8 @@ use board_graph::BoardGraph;
 use std::alloc::{AllocError, Global};
 use std::marker::Model;
 
-/// Builds baseline trees on one graph. It is made once, and its memory serves every tree: a call allocates only where
-/// a tree is larger than any before.
+/// Builds baseline trees on one graph. It is made once, and its memory serves every tree: a call allocates
+/// only where a tree is larger than any before.
 #[derive(Drop)]
 pub struct BaseTrees {
     marks: Marks,
@@ -57,10 +57,10 @@ impl BaseTrees {
         self.wires
     }
 
-    /// Builds the baseline tree of `terminals`: the parent chains of all of them to the root. False where all wires of
-    /// the graph together do not join them; the wires say nothing then, nor after want of memory, but the builder may
-    /// be used again. The forest is what [`crate::hops`] answers on the graph that the builder was made for, the
-    /// terminals are FPGAs of it, and the forest's root is one of them.
+    /// Builds the baseline tree of `terminals`: the parent chains of all of them to the root. False where all
+    /// wires of the graph together do not join them; the wires say nothing then, nor after want of memory,
+    /// but the builder may be used again. The forest is what [`crate::hops`] answers on the graph that the
+    /// builder was made for, the terminals are FPGAs of it, and the forest's root is one of them.
     pub fn build(
         &mut self,
         graph: &BoardGraph,

@@ -58,7 +58,8 @@ fn reach(
     queue: &mut Vec<u32>,
 ) -> Result<(), AllocError>
     requires { f < length distances.old.items }
-    ensures { OnOk result (IsReached f distance distances.old.items distances.new.items queue.old.items queue.new.items) }
+    ensures { OnOk result (IsReached f distance distances.old.items distances.new.items queue.old.items
+        queue.new.items) }
 {
     if distances[f as usize].is_none() {
         queue.push(f)?;

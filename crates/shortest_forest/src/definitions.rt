@@ -26,7 +26,8 @@ fn the_least_wire_is_the_parent()
     ensures other { ¬ IsParent doubled 0 1 1 0 }
 {}
 
-/// The three arms are the baseline tree of the star's ends, and no wires are that of FPGAs in two parts of a board.
+/// The three arms are the baseline tree of the star's ends, and no wires are that of FPGAs in two parts of a
+/// board.
 fn a_baseline_tree_is_the_union_of_parent_chains()
     ensures star { IsBaseTree star 1 (1 ∷ 2 ∷ 3 ∷ []) (0 ∷ 1 ∷ 2 ∷ []) }
     ensures spare { ¬ IsBaseTree star 1 (1 ∷ 2 ∷ []) (0 ∷ 1 ∷ 2 ∷ []) }

@@ -5,8 +5,8 @@ use board_graph::BoardGraph;
 use std::alloc::{AllocError, Global};
 use std::marker::Model;
 
-/// A mark for each FPGA of a graph. An FPGA is marked where it has the present number, so counting on takes all
-/// marks away, in no time in proportion to the graph but once in 2^32 times.
+/// A mark for each FPGA of a graph. An FPGA is marked where it has the present number, so counting on takes
+/// all marks away, in no time in proportion to the graph but once in 2^32 times.
 #[derive(Drop)]
 pub(crate) struct Marks {
     numbers: Vec<u32>,

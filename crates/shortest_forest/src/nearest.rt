@@ -13,11 +13,12 @@ use std::alloc::AllocError;
 pub const MOST_CAP: u64 = u64::MAX - (1 << 51) + 1;
 
 /// Goes on with the search until its nearest goal is settled, and answers it. None where nothing below
-/// `cap` is left: where the bounds are true, no goal is nearer than that. Sources come first, the others in the order of
-/// distance plus lower bound (Hart, Nilsson and Raphael, 1968), and those where this reaches the cap are left out.
-/// [`Search::begin`] comes before the first call of a search. Within one search, the lengths stay as they are, the cap
-/// may fall and bounds may rise. After want of memory the goals are as they were, but the labels are those of no
-/// search: [`Search::begin`] comes before anything else is asked of them.
+/// `cap` is left: where the bounds are true, no goal is nearer than that. Sources come first, the others in
+/// the order of distance plus lower bound (Hart, Nilsson and Raphael, 1968), and those where this reaches the
+/// cap are left out. [`Search::begin`] comes before the first call of a search. Within one search, the
+/// lengths stay as they are, the cap may fall and bounds may rise. After want of memory the goals are as they
+/// were, but the labels are those of no search: [`Search::begin`] comes before anything else is asked of
+/// them.
 pub fn nearest_goal<A: ArcLengths, B: LowerBounds>(
     search: &mut Search,
     graph: &BoardGraph,
@@ -64,8 +65,8 @@ pub fn nearest_goal<A: ArcLengths, B: LowerBounds>(
     Ok(None)
 }
 
-/// Whether an FPGA at this distance is taken from the queue before its turn. A source is not, whatever its key: its
-/// distance cannot fall.
+/// Whether an FPGA at this distance is taken from the queue before its turn. A source is not, whatever its
+/// key: its distance cannot fall.
 fn is_early(key: u64, distance: u64, bound: u64) -> bool
     requires { distance + bound < 2 ^ 64 }
     ensures { result ≡ true → key < distance + bound }
@@ -102,8 +103,8 @@ fn pass<A: ArcLengths, B: LowerBounds>(
     Ok(())
 }
 
-/// Gives an FPGA this distance and the wire by which the way enters it, if that is shorter than its label, and
-/// below the cap with the lower bound.
+/// Gives an FPGA this distance and the wire by which the way enters it, if that is shorter than its label,
+/// and below the cap with the lower bound.
 fn reach<B: LowerBounds>(
     search: &mut Search,
     fpga: u32,
@@ -118,13 +119,13 @@ fn reach<B: LowerBounds>(
         (IsReached (B.lower_bound bounds.now) cap fpga wire distance search.old search.new) }
     ensures marks { KeepsMarks search.old search.new }
 {
+    if distance >= cap {
+        return Ok(());
+    }
     if let Some(near) = search.distance(fpga) {
         if near <= distance {
             return Ok(());
         }
-    }
-    if distance >= cap {
-        return Ok(());
     }
     let bound = bounds.bound_of(fpga);
     if bound >= cap - distance {

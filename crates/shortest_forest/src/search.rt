@@ -12,7 +12,8 @@ use std::marker::Model;
 
 /// The workspace of searches over lengths on one graph: a label for each FPGA, marks of the goals, and the
 /// queue of those that are not settled. It is made once, and each search uses it again: to begin takes no
-/// time in proportion to the graph, but once in 2^32 searches, and no call allocates but where the queue grows.
+/// time in proportion to the graph, but once in 2^32 searches, and no call allocates but where the queue
+/// grows.
 #[derive(Drop)]
 pub struct Search {
     labels: Vec<Stamped>,
@@ -80,7 +81,8 @@ impl Search {
     /// memory the search is as it was.
     pub fn add_source(&mut self, f: u32) -> Result<(), AllocError>
         requires { f < length self.old.labels }
-        ensures labels { OnOk result (self.new.labels ≡ slice_set self.old.labels f (Some (record { distance = 0; wire = None }))) }
+        ensures labels { OnOk result (self.new.labels
+            ≡ slice_set self.old.labels f (Some (record { distance = 0; wire = None }))) }
         ensures goals { self.new.goals ≡ self.old.goals }
         ensures count { length self.new.labels ≡ length self.old.labels }
         ensures queue { OnOk result (IsPermutation (record { 0 = (0, f) } ∷ self.old.queue) self.new.queue) }

@@ -19,7 +19,8 @@ pub fn way_back(
     requires there { f < graph.now.fpgas }
     requires count { length search.now.labels ≡ graph.now.fpgas }
     requires back { (es : List ℕ) × ((source : ℕ) × IsWayBack (board_of graph.now) search.now f es source) }
-    ensures way { OnOk result ((es : List ℕ) × ((source : ℕ) × IsWayBack (board_of graph.now) search.now f es source
+    ensures way { OnOk result ((es : List ℕ)
+        × ((source : ℕ) × IsWayBack (board_of graph.now) search.now f es source
         × (wires.new.items ≡ wires.old.items ++ es))) }
     ensures err { OnErr result (wires.new.items ≡ wires.old.items) }
 {

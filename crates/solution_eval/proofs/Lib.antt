@@ -5,6 +5,6 @@ pub mod Cuts
 pub mod Filtered
 pub mod Joining
 pub mod Reaching
-pub mod Spreading
+pub mod Flooding
 pub mod Sums
 pub mod VerdictLaws

@@ -14,6 +14,8 @@ abbrev pub IsWanted : List Bool → ℕ → Type 0
 IsWanted wanted e = slice_index_or wanted e false ≡ true
 
 -- there are counts for each of the wires, and for each wanted one they hold the ratios on it
-pub record CountsRatios (wanted : List Bool) (routing : Routing) (wires : ℕ) (counts : List (map.FinMap nat_cmp ℕ)) : Type 0 where
+pub record CountsRatios (wanted : List Bool) (routing : Routing) (wires : ℕ)
+    (counts : List (map.FinMap nat_cmp ℕ)) : Type 0 where
   pub whole : length counts ≡ wires
-  pub each : (e : ℕ) → e < wires → IsWanted wanted e → SameReciprocals (items_at counts e) (ratios_on routing e)
+  pub each : (e : ℕ) → e < wires → IsWanted wanted e
+      → SameReciprocals (items_at counts e) (ratios_on routing e)

@@ -1,5 +1,5 @@
 pub mod Counted
-pub mod Spread
+pub mod Flood
 pub mod Steps
 pub mod Verdict
 pub mod Violations

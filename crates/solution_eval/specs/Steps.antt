@@ -1,7 +1,7 @@
 use Rattle.std.specs.Prelude.{ℕ, ◌<◌, List, All, Contains}
 use Rattle.tdm_problem.specs.Board.{Board}
 use Rattle.tdm_problem.specs.Walk.{Links}
-use Rattle.solution_eval.specs.declared.spread.Step.{Step}
+use Rattle.solution_eval.specs.declared.flood.Step.{Step}
 
 -- the steps are those along the wires, both ways
 pub record AreSteps (board : Board) (wires : List ℕ) (steps : List Step) : Type 0 where

@@ -7,7 +7,8 @@ use Rattle.solution_eval.specs.declared.judgement.Verdict.{Verdict}
 use Rattle.solution_eval.specs.declared.judgement.Verdict.TheVariants.{Legal, NotJoined, BadRatio, Overfull}
 use Rattle.solution_eval.specs.Violations.{IsJoined, HasEvenRatios, IsFitting, AllBelow, IsFirstWithout, IsFirstBadUse}
 
--- the verdict is right: legal with the value, or the first violation, nets not joined before bad ratios, and these before overfull wires
+-- the verdict is right: legal with the value, or the first violation, nets not joined before bad ratios, and
+-- these before overfull wires
 abbrev pub IsVerdict : Board → Routing → Verdict → Type 0
 IsVerdict board routing (Legal value) = IsLegal board routing × (value ≡ value_of board routing)
 IsVerdict board routing (NotJoined net) = IsFirstWithout (IsJoined board routing) (length board.nets) net

@@ -34,7 +34,8 @@ pub record IsLowestBadUse (uses : List WireUse) (wire_use : WireUse) : Type 0 wh
   pub bad : ¬ IsEvenRatio wire_use.ratio
   pub lower : All (λ (u : WireUse). u.wire < wire_use.wire → IsEvenRatio u.ratio) uses
 
--- this use of net n is the first with a ratio that is not positive and even, nets rising and wires rising within a net
+-- this use of net n is the first with a ratio that is not positive and even, nets rising and wires rising
+-- within a net
 pub record IsFirstBadUse (routing : Routing) (n : ℕ) (wire_use : WireUse) : Type 0 where
   pub net_there : n < length routing
   pub lowest : IsLowestBadUse (uses_of routing n) wire_use

@@ -4,7 +4,8 @@ ghost use Rattle.tdm_problem.specs.Samples.{doubled, on_wire_0, pair, shared, us
 ghost use Rattle.solution_eval.specs.declared.judgement.Verdict.TheVariants.{BadRatio, NotJoined, Overfull};
 ghost use Rattle.solution_eval.specs.Verdict.{IsVerdict};
 
-/// The first violation is told: nets that are not joined, then bad ratios by net and by wire, then overfull wires.
+/// The first violation is told: nets that are not joined, then bad ratios by net and by wire, then overfull
+/// wires.
 fn the_first_violation_decides()
     ensures not_joined { IsVerdict pair ([] ∷ []) (NotJoined 0) }
     ensures odd { IsVerdict pair (on_wire_0 (3 ∷ [])) (BadRatio 0 0 3) }

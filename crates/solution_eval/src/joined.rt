@@ -6,7 +6,7 @@ ghost use Rattle.tdm_problem.specs.Routing.{wires_of, IsFor};
 ghost use Rattle.tdm_problem.specs.Walk.{Joins};
 ghost use Rattle.solution_eval.specs.Violations.{IsJoined, AllBelow, IsFirstWithout};
 
-use crate::spread::{Step, leads_to_all};
+use crate::flood::{Step, leads_to_all};
 use crate::steps::list_steps;
 use std::alloc::{AllocError, Global};
 use tdm_problem::{Problem, Solution, WireUse};
@@ -50,7 +50,8 @@ pub(crate) fn first_not_joined(
     Ok(None)
 }
 
-/// Whether the wires of these uses join the FPGAs of a net. The mark is a new one, above all that the FPGAs bear.
+/// Whether the wires of these uses join the FPGAs of a net. The mark is a new one, above all that the FPGAs
+/// bear.
 fn is_joined(
     workspace: &mut Workspace,
     problem: &Problem,

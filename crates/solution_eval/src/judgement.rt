@@ -21,14 +21,14 @@ pub enum Verdict {
     NotJoined { net: u32 },
     /// All nets are joined, and this is the first use with a ratio that is 0 or odd.
     BadRatio { net: u32, wire: u32, ratio: u32 },
-    /// All nets are joined by positive even ratios, and this wire is the first on which the reciprocals of the
-    /// ratios sum to more than its lanes.
+    /// All nets are joined by positive even ratios, and this wire is the first on which the reciprocals of
+    /// the ratios sum to more than its lanes.
     Overfull { wire: u32 },
 }
 
-/// Judges a solution for the problem: legal with its value, or the first violation. Nets that are not joined come
-/// first, nets rising; then ratios that are 0 or odd, nets rising and wires rising within a net; then overfull
-/// wires, rising. Reciprocals are summed exactly. The only error is want of memory.
+/// Judges a solution for the problem: legal with its value, or the first violation. Nets that are not joined
+/// come first, nets rising; then ratios that are 0 or odd, nets rising and wires rising within a net; then
+/// overfull wires, rising. Reciprocals are summed exactly. The only error is want of memory.
 pub fn judge(alloc: Global, problem: &Problem, solution: &Solution) -> Result<Verdict, AllocError>
     requires { IsFor problem.now solution.now }
     ensures verdict { IfOk result (λ verdict. IsVerdict problem.now solution.now verdict) }

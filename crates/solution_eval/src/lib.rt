@@ -4,10 +4,10 @@
 mod bad_use;
 #[cfg(test)]
 mod definitions;
+mod flood;
 mod joined;
 mod judgement;
 mod overfull;
-mod spread;
 mod steps;
 mod worth;
 

@@ -10,8 +10,8 @@ use recip_sum::Counts;
 use std::alloc::{AllocError, Global};
 use tdm_problem::{LANES, Problem, Solution, WireUse};
 
-/// The first wire on which the reciprocals of the ratios sum to more than its lanes. All ratios are positive and
-/// even. The only error is want of memory.
+/// The first wire on which the reciprocals of the ratios sum to more than its lanes. All ratios are positive
+/// and even. The only error is want of memory.
 pub(crate) fn first_overfull(
     alloc: Global,
     problem: &Problem,
@@ -33,9 +33,9 @@ pub(crate) fn first_overfull(
     Ok(None)
 }
 
-/// Counts the ratios on each wire that is wanted, in one pass over all uses. There are counts for the other wires too, of
-/// which nothing is promised. `wanted` has a place for each wire, and all ratios are positive and even. The only error is
-/// want of memory.
+/// Counts the ratios on each wire that is wanted, in one pass over all uses. There are counts for the other
+/// wires too, of which nothing is promised. `wanted` has a place for each wire, and all ratios are positive
+/// and even. The only error is want of memory.
 pub fn count_ratios(
     alloc: Global,
     problem: &Problem,
@@ -45,7 +45,8 @@ pub fn count_ratios(
     requires is_for { IsFor problem.now solution.now }
     requires even { AllBelow (HasEvenRatios solution.now) (length solution.now) }
     requires wanted { length wanted.now ≡ length problem.now.wires }
-    ensures { IfOk result (λ counts. CountsRatios wanted.now solution.now (length problem.now.wires) counts.items) }
+    ensures { IfOk result (λ counts. CountsRatios wanted.now solution.now (length problem.now.wires)
+        counts.items) }
 {
     let mut counts = no_counts(alloc, problem.wires())?;
     for n in 0..solution.nets() {
@@ -71,7 +72,8 @@ fn add_uses(counts: &mut [Counts], wanted: &[bool], uses: &[WireUse]) -> Result<
     requires there { All (λ (u : WireUse). u.wire < length counts.old) uses.now }
     requires distinct { AllPairs (λ d e. d ≢ e) (wires_of uses.now) }
     requires positive { All (λ (u : WireUse). 0 < u.ratio) uses.now }
-    requires room { (e : ℕ) → e < length counts.old → IsWanted wanted.now e → length (items_at counts.old e) < 2 ^ 20 }
+    requires room { (e : ℕ) → e < length counts.old → IsWanted wanted.now e → length (items_at counts.old e)
+        < 2 ^ 20 }
     ensures size { OnOk result (length counts.new ≡ length counts.old) }
     ensures counted { OnOk result ((e : ℕ) → e < length counts.old → IsWanted wanted.now e
         → SameReciprocals (items_at counts.new e)

@@ -3,10 +3,10 @@ ghost use Rattle.std.specs.Prelude.{◌<◌, length, All, OnOk};
 ghost use Rattle.std.specs.List.Sorted.{IsNonDecreasingBy, IsPermutation};
 ghost use Rattle.tdm_problem.specs.declared.solution.WireUse.{WireUse};
 ghost use Rattle.tdm_problem.specs.Routing.{wires_of};
-ghost use Rattle.solution_eval.specs.declared.spread.Step.{Step};
+ghost use Rattle.solution_eval.specs.declared.flood.Step.{Step};
 ghost use Rattle.solution_eval.specs.Steps.{AreSteps};
 
-use crate::spread::Step;
+use crate::flood::Step;
 use std::alloc::AllocError;
 use tdm_problem::{Problem, WireUse};
 

@@ -26,7 +26,15 @@ fn one_net(alloc: Global) -> Result<Problem, AllocError>
 
 /// The same with a second wire between them.
 fn one_net_and_two_wires(alloc: Global) -> Result<Problem, AllocError>
-    ensures { IfOk result (λ p. p ≡ record { fpgas = 2; wires = record { a = 0; b = 1 } ∷ record { a = 0; b = 1 } ∷ []; nets = (0 ∷ 1 ∷ []) ∷ []; groups = (0 ∷ []) ∷ [] }) }
+    ensures { IfOk result (λ p. p ≡ record {
+      fpgas = 2;
+      wires = record { a = 0; b = 1 } ∷ record {
+        a = 0;
+        b = 1;
+      } ∷ [];
+      nets = (0 ∷ 1 ∷ []) ∷ [];
+      groups = (0 ∷ []) ∷ [];
+    }) }
 {
     let mut draft = ProblemDraft::new(alloc, 2);
     draft.push_wire(Wire { a: 0, b: 1 })?;

@@ -1,4 +1,5 @@
--- Where a solution text stands: what its lines so far have said, and what the lines that still come make of that.
+-- Where a solution text stands: what its lines so far have said, and what the lines that still come make of
+-- that.
 use Rattle.std.specs.Prelude.{◌≡◌, ℕ, zero, suc, ◌+◌, ◌-◌, ◌<◌, ◌≤◌, List, [], ◌∷◌, ◌++◌, length, All, Option, Some, None, Result, Ok, Err}
 use Rattle.tdm_lines.specs.declared.line.TokenFault.{TokenFault}
 use Rattle.tdm_lines.specs.Lines.{Line}
@@ -32,18 +33,24 @@ from_use wires after routing uses count nets lines =
       rest ← nets_from wires after nets net.1
       Ok (net.0 ∷ rest))
 
--- what the text says whose lines so far made this state, where these lines are still to come and `after` is the line after the text
-abbrev pub said_in : Role → ℕ → ℕ → Routing → List WireUse → ℕ → ℕ → List Line → Result Routing SolutionRefusal
-said_in role.Count wires left routing uses count after lines = with_nets routing (nets_from wires after left lines)
-said_in role.Use wires left routing uses count after lines = from_use wires after routing uses count (left - 1) lines
+-- what the text says whose lines so far made this state, where these lines are still to come and `after` is
+-- the line after the text
+abbrev pub said_in : Role → ℕ → ℕ → Routing → List WireUse → ℕ → ℕ → List Line
+    → Result Routing SolutionRefusal
+said_in role.Count wires left routing uses count after lines =
+    with_nets routing (nets_from wires after left lines)
+said_in role.Use wires left routing uses count after lines =
+    from_use wires after routing uses count (left - 1) lines
 said_in (role.Refused refusal) wires left routing uses count after lines = Err refusal
 
 abbrev pub said_of : SolutionState → ℕ → List Line → Result Routing SolutionRefusal
-said_of state after lines = said_in state.role state.wires state.left state.solution state.uses.items state.count after lines
+said_of state after lines = said_in state.role state.wires state.left state.solution state.uses.items
+    state.count after lines
 
 -- the lines so far made this state: whatever comes, the text says what the state says of that
 abbrev pub Reads : SolutionState → List Line → Type 0
-Reads state done = (after : ℕ) (more : List Line) → nets_from state.wires after state.nets (done ++ more) ≡ said_of state after more
+Reads state done = (after : ℕ) (more : List Line) → nets_from state.wires after state.nets (done ++ more)
+    ≡ said_of state after more
 
 -- the first numbers of the line in progress
 abbrev pub Holds : SolutionState → List ℕ → Type 0
@@ -52,7 +59,8 @@ Holds state numbers = AreFirst state.numbers numbers
 -- the stamps of the wires, where so many nets are read: those of the net in progress are marked
 abbrev pub IsStamped : Role → ℕ → ℕ → ℕ → ℕ → List ℕ → List WireUse → Type 0
 IsStamped role.Count wires read left count stamps uses = All (λ s. s ≤ read) stamps
-IsStamped role.Use wires read left count stamps uses = (0 < left) × (0 < count) × (length stamps ≡ wires) × Marks stamps (read + 1) uses
+IsStamped role.Use wires read left count stamps uses = (0 < left) × (0 < count) × (length stamps ≡ wires)
+    × Marks stamps (read + 1) uses
 IsStamped (role.Refused refusal) wires read left count stamps uses = Unit {0}
 
 -- what holds of each state
@@ -61,4 +69,5 @@ pub record IsFine (state : SolutionState) : Type 0 where
   pub largest : state.numbers.largest ≡ largest_number
   pub nets : state.nets ≤ most_nets
   pub read : length state.solution + state.left ≡ state.nets
-  pub stamped : IsStamped state.role state.wires (length state.solution) state.left state.count state.stamps.items state.uses.items
+  pub stamped : IsStamped state.role state.wires (length state.solution) state.left state.count
+      state.stamps.items state.uses.items

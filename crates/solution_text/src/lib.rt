@@ -1,7 +1,7 @@
 //! The text of a solution: writing it to a desk, and reading it back.
 //!
-//! For each net of the board, in order, the text has a line with the number of the net's uses, and then for each
-//! use a line with the wire and the ratio.
+//! For each net of the board, in order, the text has a line with the number of the net's uses, and then for
+//! each use a line with the wire and the ratio.
 #![tactic(auto)]
 
 #[cfg(test)]

@@ -53,8 +53,8 @@ impl SolutionReader {
         self.reading.fed()
     }
 
-    /// Takes the next piece of a text, of which at most one byte more than the longest is fed. After a want of
-    /// memory the reader is spent, and answers so from then on.
+    /// Takes the next piece of a text, of which at most one byte more than the longest is fed. After a want
+    /// of memory the reader is spent, and answers so from then on.
     pub fn feed(&mut self, piece: &[u8]) -> Result<(), AllocError>
         requires { self.old.fed + length piece.now ≤ 2 ^ 30 + 1 }
         ensures at { OnOk result ((board : Board) (text : List ℕ) → IsAt self.old board text

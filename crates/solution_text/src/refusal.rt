@@ -4,8 +4,9 @@ ghost use Rattle.solution_text.specs.Kinds.{name_of};
 
 use tdm_lines::{ReadingFault, Refusal, RefusalKind, TokenFault};
 
-/// What is wrong with a text that is no solution. Of the kinds from BadNumber to RepeatedWire that a line has, the
-/// earlier one is named; a line past the last one is an ExtraLine whatever it holds. TooLong comes before all.
+/// What is wrong with a text that is no solution. Of the kinds from BadNumber to RepeatedWire that a line
+/// has, the earlier one is named; a line past the last one is an ExtraLine whatever it holds. TooLong comes
+/// before all.
 #[derive(Clone, Copy, Debug, PartialEq, Eq)]
 pub enum SolutionKind {
     /// Some token of the line is not one or more decimal digits.

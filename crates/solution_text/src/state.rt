@@ -48,7 +48,8 @@ pub(crate) struct SolutionState {
     /// How many uses of the net in progress are still to come.
     count: u32,
     numbers: FirstNumbers,
-    /// For each wire of the board, the stamp of the last net that used it; nothing before the first count line.
+    /// For each wire of the board, the stamp of the last net that used it; nothing before the first count
+    /// line.
     stamps: Vec<u32>,
     uses: Vec<WireUse>,
     solution: Solution,

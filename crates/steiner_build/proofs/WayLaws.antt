@@ -9,16 +9,19 @@ use Rattle.steiner_build.specs.Growth.{IsOn, IsBranch}
 
 module _ (board : Board) (s : Labels) where
   -- from an FPGA on the way back the rest of it leads on
-  way-from : (x : ℕ) (es : List ℕ) (source a : ℕ) → IsWayBack board s x es source → IsOn board x es a → (fs : List ℕ) × IsWayBack board s a fs source × (length fs ≤ length es)
+  way-from : (x : ℕ) (es : List ℕ) (source a : ℕ) → IsWayBack board s x es source → IsOn board x es a
+      → (fs : List ℕ) × IsWayBack board s a fs source × (length fs ≤ length es)
   way-from x [] source a way on = absurd on
-  way-from x (e ∷ es) source a way (inl same) = (e ∷ es, subst (λ (z : ℕ). IsWayBack board s z (e ∷ es) source) same way, omega arith)
+  way-from x (e ∷ es) source a way (inl same) =
+      (e ∷ es, subst (λ (z : ℕ). IsWayBack board s z (e ∷ es) source) same way, omega arith)
   way-from x (e ∷ es) source a way (inr on) =
       let near : on.0 ≡ way.2.0 = other-end board e x on.0 way.2.0 on.1 way.2.1 in
       let rest = way-from way.2.0 es source a way.2.2 (subst (λ (z : ℕ). IsOn board z es a) near on.2) in
       (rest.0, rest.1, omega (arith, rest.2))
 
   -- the way back is a path by FPGAs that are no sources, none of them twice
-  pub way-branch : (a : ℕ) (es : List ℕ) (source : ℕ) → IsWayBack board s a es source → IsBranch board (IsSource s) a es
+  pub way-branch : (a : ℕ) (es : List ℕ) (source : ℕ) → IsWayBack board s a es source
+      → IsBranch board (IsSource s) a es
   way-branch a [] source way = way.1
   way-branch a (e ∷ es) source way = (
     λ h. not_source s a 0 way.0 e h way.1,
@@ -34,7 +37,9 @@ module _ (board : Board) (s : Labels) where
   )
 
 -- a path under another word for what is reached
-pub branch-as : (board : Board) (a : ℕ) (es : List ℕ) (reached reached' : ℕ → Type 0) → ((f : ℕ) → reached f → reached' f) → ((f : ℕ) → reached' f → reached f) → IsBranch board reached a es → IsBranch board reached' a es
+pub branch-as : (board : Board) (a : ℕ) (es : List ℕ) (reached reached' : ℕ → Type 0)
+    → ((f : ℕ) → reached f → reached' f) → ((f : ℕ) → reached' f → reached f) → IsBranch board reached a es
+    → IsBranch board reached' a es
 branch-as board a [] reached reached' to back branch = to a branch
 branch-as board a (e ∷ es) reached reached' to back branch = (
   λ h. branch.0 (back a h),

@@ -30,7 +30,8 @@ IsWithinGoals board wire_length s number = (a g : ℕ) (es : List ℕ) → IsSou
     → IsWalk board (AnyWire board) a es g → number ≤ length_of wire_length es
 
 -- the nearest goal is joined with the sources by a least path
-pub record IsJoinedBy (board : Board) (wire_length : ℕ → ℕ) (old new : Labels) (wires wires' : List ℕ) (distance : ℕ) : Type 0 where
+pub record IsJoinedBy (board : Board) (wire_length : ℕ → ℕ) (old new : Labels) (wires wires' : List ℕ)
+    (distance : ℕ) : Type 0 where
   pub goal : ℕ
   pub path : List ℕ
   pub marked : IsGoal old.goals goal
@@ -46,7 +47,8 @@ abbrev pub IsJoined : List ℕ → List Bool → ℕ → Type 0
 IsJoined terminals goals t = Contains terminals t × (slice_index_or goals t false ≡ false)
 
 -- some FPGAs, none twice, to which no walks from the start are together shorter than the number
-pub record IsSpent (board : Board) (wire_length : ℕ → ℕ) (start : ℕ) (joined : ℕ → Type 0) (number : ℕ) : Type 0 where
+pub record IsSpent (board : Board) (wire_length : ℕ → ℕ) (start : ℕ) (joined : ℕ
+    → Type 0) (number : ℕ) : Type 0 where
   pub ends : List ℕ
   pub distinct : IsApart ends
   pub there : (t : ℕ) → Contains ends t → joined t
@@ -54,7 +56,8 @@ pub record IsSpent (board : Board) (wire_length : ℕ → ℕ) (start : ℕ) (jo
       → number ≤ sum_by far ends
 
 -- the wires are a tree of the joined terminals, of this length; the goals are the other terminals
-pub record IsJoining (board : Board) (wire_length : ℕ → ℕ) (start : ℕ) (terminals : List ℕ) (s : Labels) (wires : List ℕ) (total : ℕ) : Type 0 where
+pub record IsJoining (board : Board) (wire_length : ℕ → ℕ) (start : ℕ) (terminals : List ℕ) (s : Labels)
+    (wires : List ℕ) (total : ℕ) : Type 0 where
   pub ordered : List ℕ
   pub moved : IsPermutation ordered wires
   pub tree : IsTree board ordered (IsSource s) (IsJoined terminals s.goals)

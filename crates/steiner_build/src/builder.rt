@@ -65,12 +65,13 @@ impl TreeBuilder {
     }
 
     /// Grows a minimal tree of the terminals from `start`, one of them: the nearest of the others is joined
-    /// by a least path, again and again. Answers the tree's length, where that is below `cap`; its wires are then
-    /// [`TreeBuilder::wires`]. None where walks from `start` to the terminals are together at least as long
-    /// as `cap`; with the greatest cap no wires connect the terminals. They are FPGAs of the graph that the
-    /// builder was made for. The bound of an FPGA is at most the length of every walk from there to a
-    /// terminal other than `start`, and is told of each terminal that is joined. After each answer, and after want
-    /// of memory, the builder may be used again; without a tree, its wires say nothing, nor do the bounds.
+    /// by a least path, again and again. Answers the tree's length, where that is below `cap`; its wires are
+    /// then [`TreeBuilder::wires`]. None where walks from `start` to the terminals are together at least as
+    /// long as `cap`; with the greatest cap no wires connect the terminals. They are FPGAs of the graph that
+    /// the builder was made for. The bound of an FPGA is at most the length of every walk from there to a
+    /// terminal other than `start`, and is told of each terminal that is joined. After each answer, and after
+    /// want of memory, the builder may be used again; without a tree, its wires say nothing, nor do the
+    /// bounds.
     pub fn grow<Q: Lengths, B: TreeBounds>(
         &mut self,
         graph: &BoardGraph,
@@ -89,7 +90,8 @@ impl TreeBuilder {
         requires start { Contains terminals.now start }
         requires cap { cap ≤ 2 ^ 64 - 2 ^ 51 }
         ensures fpgas { self.new.fpgas ≡ self.old.fpgas }
-        ensures minimal { IfOk result (λ grown. IfSome grown (λ _. (board : Board) → graph.now ≡ graph_of board
+        ensures minimal { IfOk result (λ grown. IfSome grown (λ _. (board : Board)
+            → graph.now ≡ graph_of board
             → IsMinimalTree board self.new.wires terminals.now)) }
         ensures rising { IfOk result (λ grown. IfSome grown (λ _. IsStrictlyIncreasing self.new.wires)) }
         ensures inside { IfOk result (λ grown. IfSome grown (λ _. All (λ e. e < length graph.now.wires)
@@ -129,8 +131,8 @@ impl TreeBuilder {
 
 /// A minimal tree of the terminals, wires rising: from the first terminal on, the nearest of the others is
 /// joined by a least path, again and again. It is not longer than the sum of the least distances of the
-/// terminals from the first one; for two terminals it is the shortest of all sets of wires that join them. The
-/// terminals are FPGAs of the graph, at least one, and the lengths cover its wires.
+/// terminals from the first one; for two terminals it is the shortest of all sets of wires that join them.
+/// The terminals are FPGAs of the graph, at least one, and the lengths cover its wires.
 pub fn build<Q: Lengths>(
     alloc: Global,
     graph: &BoardGraph,
@@ -150,7 +152,8 @@ pub fn build<Q: Lengths>(
         terminals.now (length_of (Q.length lengths.now) wires.items)) }
     ensures connectable { IfOk result (λ _. (board : Board) → graph.now ≡ graph_of board
         → IsConnectable board terminals.now) }
-    ensures apart { IfErr result (λ fault. fault ≡ NotConnectable → (board : Board) → graph.now ≡ graph_of board
+    ensures apart { IfErr result (λ fault. fault ≡ NotConnectable → (board : Board)
+        → graph.now ≡ graph_of board
         → ¬ IsConnectable board terminals.now) }
 {
     let _fpgas = graph.fpgas();

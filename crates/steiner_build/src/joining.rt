@@ -79,7 +79,8 @@ pub(crate) fn join_all<Q: Lengths, B: TreeBounds>(
     ensures goals { (f : ℕ) → IsGoal search.new.goals f → IsGoal search.old.goals f }
     ensures joined { IfOk result (λ grown. IfSome grown (λ total. HasNoGoals search.new.goals
         × ((terminals : List ℕ) → Contains terminals start → AreOthers terminals start search.old.goals
-        → IsJoining (board_of graph.now) (Q.length lengths.now) start terminals search.new wires.new.items total))) }
+        → IsJoining (board_of graph.now) (Q.length lengths.now) start terminals search.new wires.new.items
+        total))) }
     ensures below { IfOk result (λ grown. IfSome grown (λ total. total < cap)) }
     ensures far { IfOk result (λ grown. IfNone grown ((terminals : List ℕ) → Contains terminals start
         → AreOthers terminals start search.old.goals

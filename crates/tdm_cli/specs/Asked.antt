@@ -1,5 +1,6 @@
--- The status that a request calls for by the files when it began, where nothing outside fails and memory is there.
-use Rattle.std.specs.Prelude.{◌≡◌, ◌<◌, ℕ, length, Option, Some, None, Result, Ok, Err}
+-- The status that a request calls for by the files when it began, where nothing outside fails and memory is
+-- there.
+use Rattle.std.specs.Prelude.{◌≡◌, ◌⊎◌, ◌<◌, ℕ, length, Option, Some, None, Result, Ok, Err}
 use Rattle.std.specs.FinMap.{get}
 use Rattle.tdm_desk.specs.Files.{Bytes, Files}
 use Rattle.tdm_problem.specs.Board.{Board}
@@ -17,18 +18,20 @@ use Rattle.tdm_cli.specs.Kinds.{boards, solutions, certificates}
 use Rattle.tdm_cli.specs.Request.{Request, route, eval, check, gen, demo, nothing}
 
 -- a text decides where it is refused, and else what follows from what it says
-abbrev pub SaidFor : {V R : Type 0} → TextKind Status V R → (V → Status → Type 0) → Result V R → Status → Type 0
+abbrev pub SaidFor : {V R : Type 0} → TextKind Status V R → (V → Status → Type 0) → Result V R → Status
+    → Type 0
 SaidFor kind Then (Ok value) answer = Then value answer
 SaidFor kind Then (Err refusal) answer = answer ≡ kind.status
 
 -- a file decides where there is none or it is refused, and else what follows from what it says
-abbrev pub FileFor : {V R : Type 0} → TextKind Status V R → (V → Status → Type 0) → Option Bytes → Status → Type 0
+abbrev pub FileFor : {V R : Type 0} → TextKind Status V R → (V → Status → Type 0) → Option Bytes → Status
+    → Type 0
 FileFor kind Then None answer = answer ≡ status.NoInput
 FileFor kind Then (Some bytes) answer = SaidFor kind Then (kind.says bytes) answer
 
 -- the FPGAs of some net are not joined by the wires of the board
 abbrev pub SomeUnconnectable : Board → Type 0
-SomeUnconnectable board = (n : ℕ) × (n < length board.nets) × (IsConnectable board (terminals_of board n) → ⊥)
+SomeUnconnectable board = (n : ℕ) × (n < length board.nets) × ¬ IsConnectable board (terminals_of board n)
 
 -- a board is routed where its nets can be joined and its baseline is within the limit on uses
 abbrev pub RoutingFor : Board → Status → Type 0
@@ -37,17 +40,17 @@ RoutingFor board status.UseLimit = IsOverUseLimit board
 RoutingFor board status.Ok = AllConnectable board × IsWithinUseLimit board
 RoutingFor board _ = ⊥
 
+-- one status where it holds, and another where it does not
+abbrev pub YesOrNo : (Holds : Type 0) → (so otherwise answer : Status) → Type 0
+YesOrNo Holds so otherwise answer = ((answer ≡ so) × Holds) ⊎ ((answer ≡ otherwise) × ¬ Holds)
+
 -- a solution is legal or not
 abbrev pub JudgingFor : Board → Routing → Status → Type 0
-JudgingFor board routing status.Ok = IsLegal board routing
-JudgingFor board routing status.Illegal = IsLegal board routing → ⊥
-JudgingFor board routing _ = ⊥
+JudgingFor board routing = YesOrNo (IsLegal board routing) status.Ok status.Illegal
 
 -- a certificate is valid or not
 abbrev pub CheckingFor : Board → Cert → Status → Type 0
-CheckingFor board cert status.Ok = IsValid board cert
-CheckingFor board cert status.CertRejected = IsValid board cert → ⊥
-CheckingFor board cert _ = ⊥
+CheckingFor board cert = YesOrNo (IsValid board cert) status.Ok status.CertRejected
 
 -- a board whose nets can be joined is routed where its baseline is within the limit on uses
 abbrev pub ShowingFor : Board → Status → Type 0
@@ -59,9 +62,11 @@ ShowingFor board _ = ⊥
 abbrev pub StatusFor : Request → Files → Status → Type 0
 StatusFor (route board solution cert rounds) files = FileFor boards RoutingFor (get files board)
 StatusFor (eval board solution) files =
-    FileFor boards (λ problem. FileFor (solutions problem) (JudgingFor problem) (get files solution)) (get files board)
+    FileFor boards (λ problem. FileFor (solutions problem) (JudgingFor problem) (get files solution))
+    (get files board)
 StatusFor (check board cert) files =
-    FileFor boards (λ problem. FileFor (certificates problem) (CheckingFor problem) (get files cert)) (get files board)
+    FileFor boards (λ problem. FileFor (certificates problem) (CheckingFor problem) (get files cert))
+    (get files board)
 StatusFor (gen fpgas nets groups board) files = λ answer. answer ≡ status.Ok
 StatusFor (demo fpgas nets groups solution cert) files = ShowingFor (generated fpgas nets groups)
 StatusFor nothing files = λ answer. answer ≡ status.Usage

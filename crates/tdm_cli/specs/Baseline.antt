@@ -29,7 +29,7 @@ pub record IsBaseline (board : Board) (routing : Routing) : Type 0 where
 pub record AreUnconnectable (board : Board) (nets : List ℕ) : Type 0 where
   pub rising : IsStrictlyIncreasing nets
   pub exact : (n : ℕ) → Contains nets n ↔ ((n < length board.nets)
-      × (IsConnectable board (terminals_of board n) → ⊥))
+      × ¬ IsConnectable board (terminals_of board n))
 
 -- the baseline has no more uses than `route` may write
 abbrev pub IsWithinUseLimit : Board → Type 0

@@ -25,4 +25,5 @@ pub record IsOfRound (board : Board) (round : Round) (candidate : Candidate) : T
 
 -- it is there and is of the last of the rounds that fits, if one does
 abbrev pub IsOfLast : Board → List Round → Option Candidate → Type 0
-IsOfLast board rounds candidate = (last : Round) → IsLastFit rounds last → MatchOption candidate ⊥ (IsOfRound board last)
+IsOfLast board rounds candidate = (last : Round) → IsLastFit rounds last
+    → MatchOption candidate ⊥ (IsOfRound board last)

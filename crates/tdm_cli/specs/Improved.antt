@@ -16,7 +16,8 @@ abbrev pub MeetsBaselineRounds : Board → (count value bound : ℕ) → Type 0
 MeetsBaselineRounds board count value bound =
     (trees : List (List ℕ)) × AreBaseTrees board trees × MeetsRounds board trees count value bound
 
--- of a board with a baseline a tight solution that may be written, and a certificate that may be, with its bound; unless the
+-- of a board with a baseline a tight solution that may be written, and a certificate that may be, with its
+-- bound; unless the
 -- value is 0, so many rounds that value and bound both meet
 pub record IsImproved (board : Board) (count : ℕ) (routing : Routing) (cert : Cert) (bound : ℕ) : Type 0 where
   pub joined : AllConnectable board

@@ -1,16 +1,15 @@
 -- The statuses that runs of all commands have in common, and the kinds of text that commands read.
-use Rattle.std.specs.Prelude.{◌^◌}
 use Rattle.tdm_desk.specs.declared.slots.InSlot.TheVariants.{In0, In1}
 use Rattle.tdm_desk.specs.Files.{Name}
 use Rattle.tdm_problem.specs.Board.{Board}
 use Rattle.tdm_problem.specs.Routing.{Routing}
 use Rattle.contest_input.specs.Kinds.{BoardRefusal, name_of as board_fault}
-use Rattle.contest_input.specs.BoardText.{board_of}
+use Rattle.contest_input.specs.BoardText.{board_of, most_bytes as most_board_bytes}
 use Rattle.solution_text.specs.Kinds.{SolutionRefusal, name_of as solution_fault}
-use Rattle.solution_text.specs.Reading.{solution_of}
+use Rattle.solution_text.specs.Reading.{solution_of, most_bytes as most_solution_bytes}
 use Rattle.bound_cert.specs.CertKinds.{CertRefusal, name_of as cert_fault}
 use Rattle.bound_cert.specs.Certificate.{Cert}
-use Rattle.bound_cert.specs.CertReading.{cert_of}
+use Rattle.bound_cert.specs.CertReading.{cert_of, most_bytes as most_cert_bytes}
 use Rattle.command_run.specs.Outcome.{Faults}
 use Rattle.command_run.specs.Inputs.{Input, TextKind}
 use Rattle.tdm_cli.specs.declared.status.Status.{Status}
@@ -52,8 +51,12 @@ certificates board = record {
 
 -- the board is the first input of a command
 abbrev pub board_input : Name → Input
-board_input name = record { slot = In0; name = name; limit = 2 ^ 28 }
+board_input name = record { slot = In0; name = name; limit = most_board_bytes }
 
--- a text for the board is the second
-abbrev pub second_input : Name → Input
-second_input name = record { slot = In1; name = name; limit = 2 ^ 30 }
+-- a solution of the board is the second
+abbrev pub solution_input : Name → Input
+solution_input name = record { slot = In1; name = name; limit = most_solution_bytes }
+
+-- and so is a certificate for it
+abbrev pub cert_input : Name → Input
+cert_input name = record { slot = In1; name = name; limit = most_cert_bytes }

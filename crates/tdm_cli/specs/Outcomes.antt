@@ -21,6 +21,7 @@ use Rattle.command_run.specs.Outcome.{Outcome}
 use Rattle.command_run.specs.Inputs.{Content, ByInput, ByNone}
 use Rattle.tdm_cli.specs.declared.status.Status.{Status}
 use Rattle.tdm_cli.specs.declared.status.Status.TheVariants as status
+use Rattle.tdm_cli.specs.Words.{usual_rounds}
 use Rattle.tdm_cli.specs.Reports.{usage_report, route_report, size_report, demo_report, verdict_report, answer_report, unconnectable_report, use_limit_report}
 use Rattle.tdm_cli.specs.Baseline.{AreUnconnectable, IsOverUseLimit}
 use Rattle.tdm_cli.specs.Improved.{IsImproved}
@@ -29,13 +30,20 @@ use Rattle.tdm_cli.specs.Request.{Request, route, eval, check, gen, demo, nothin
 
 -- the outcome with this status, report and texts, after so many inputs that could all be read
 abbrev pub comes_to : ℕ → Status → Bytes → List Bytes → Outcome Status
-comes_to opened status report texts = record { opened = opened; unread = None; status = status; report = report; texts = texts }
+comes_to opened status report texts = record {
+  opened = opened;
+  unread = None;
+  status = status;
+  report = report;
+  texts = texts;
+}
 
 -- the words are no command
 abbrev pub refused_words : Outcome Status
 refused_words = comes_to 0 status.Usage usage_report []
 
--- what the routing of a board by so many rounds comes to: some nets cannot be joined, or the baseline has too many uses, or
+-- what the routing of a board by so many rounds comes to: some nets cannot be joined, or the baseline has too
+-- many uses, or
 -- a solution and a certificate are written, and their value and bound are said
 pub data Routes (board : Board) (rounds : ℕ) (outcome : Outcome Status) : Type 0 where
   is_unconnectable : (nets : List ℕ) → AreUnconnectable board nets → 0 < length nets
@@ -43,7 +51,8 @@ pub data Routes (board : Board) (rounds : ℕ) (outcome : Outcome Status) : Type
   is_over_limit : IsOverUseLimit board
       → outcome ≡ comes_to 1 status.UseLimit use_limit_report [] → Routes board rounds outcome
   is_routed : (routing : Routing) (cert : Cert) (bound : ℕ) → IsImproved board rounds routing cert bound
-      → outcome ≡ comes_to 1 status.Ok (route_report (value_of board routing) bound) (solution_text routing ∷ cert_text cert ∷ [])
+      → outcome ≡ comes_to 1 status.Ok (route_report (value_of board routing) bound)
+      (solution_text routing ∷ cert_text cert ∷ [])
       → Routes board rounds outcome
 
 -- the status of a solution that is judged so
@@ -77,12 +86,13 @@ pub record Generates (fpgas nets groups : ℕ) (outcome : Outcome Status) : Type
   pub is : outcome ≡ comes_to 0 status.Ok (size_report (generated fpgas nets groups))
       (board_text (generated fpgas nets groups) ∷ [])
 
--- what the routing of the board of these numbers by 20 rounds comes to: the baseline has too many uses, or a solution and a
--- certificate are written, and how large the board is, their value and their bound are said
+-- what routing the board of these numbers by the usual rounds comes to: the baseline has too many uses, or a
+-- solution and a certificate are written, and how large the board is, their value and their bound are said
 pub data Demonstrates (fpgas nets groups : ℕ) (outcome : Outcome Status) : Type 0 where
   is_too_large : IsOverUseLimit (generated fpgas nets groups)
       → outcome ≡ comes_to 0 status.UseLimit use_limit_report [] → Demonstrates fpgas nets groups outcome
-  is_shown : (routing : Routing) (cert : Cert) (bound : ℕ) → IsImproved (generated fpgas nets groups) 20 routing cert bound
+  is_shown : (routing : Routing) (cert : Cert) (bound : ℕ)
+      → IsImproved (generated fpgas nets groups) usual_rounds routing cert bound
       → outcome ≡ comes_to 0 status.Ok
       (demo_report (generated fpgas nets groups) (value_of (generated fpgas nets groups) routing) bound)
       (solution_text routing ∷ cert_text cert ∷ [])
@@ -98,7 +108,8 @@ ChecksNext board = ByInput faults In1 (certificates board) (λ cert. ByNone (Che
 
 -- the outcomes that a request calls for, where its inputs hold this
 abbrev pub CallsFor : Request → List Content → Outcome Status → Type 0
-CallsFor (route board solution cert rounds) = ByInput faults In0 boards (λ problem. ByNone (Routes problem rounds))
+CallsFor (route board solution cert rounds) =
+    ByInput faults In0 boards (λ problem. ByNone (Routes problem rounds))
 CallsFor (eval board solution) = ByInput faults In0 boards JudgesNext
 CallsFor (check board cert) = ByInput faults In0 boards ChecksNext
 CallsFor (gen fpgas nets groups board) = ByNone (Generates fpgas nets groups)

@@ -20,20 +20,22 @@ pub record AreBasedSoFar (board : Board) (nets : ℕ) (trees : List (List ℕ)) 
   pub within : used ≤ MAX_USES → (used ≡ sum_by length all) × (trees ≡ all)
   pub over : MAX_USES < used → MAX_USES < sum_by length all
 
--- of the first nets the missing ones are those that no wires join; where none is missing, they have baseline trees
-pub record IsProgress (board : Board) (nets : ℕ) (trees : List (List ℕ)) (used : ℕ) (missing : List ℕ) : Type 0 where
+-- of the first nets the missing ones are those that no wires join; where none is missing, they have baseline
+-- trees
+pub record IsProgress (board : Board) (nets : ℕ) (trees : List (List ℕ)) (used : ℕ)
+    (missing : List ℕ) : Type 0 where
   pub limit : length board.nets ≤ most_nets
   pub few : length trees ≤ nets
   pub rising : IsStrictlyIncreasing missing
-  pub exact : (n : ℕ) → Contains missing n ↔ ((n < nets) × (IsConnectable board (terminals_of board n) → ⊥))
+  pub exact : (n : ℕ) → Contains missing n ↔ ((n < nets) × ¬ IsConnectable board (terminals_of board n))
   pub based : missing ≡ [] → AreBasedSoFar board nets trees used
 
--- there is a forest of least hops at this root
+-- there is a forest of least hops from this source
 abbrev pub HasForestAt : Graph → List (Option Reach) → ℕ → Type 0
-HasForestAt graph forests root = (reach : Reach) × (slice_index_or forests root None ≡ Some reach)
-    × IsHopForest graph reach × (reach.root ≡ root)
+HasForestAt graph forests source = (reach : Reach) × (slice_index_or forests source None ≡ Some reach)
+    × IsHopForest graph reach × (reach.root ≡ source)
 
--- there is a forest at the source of each of the first nets
+-- there is a forest from the source of each of the first nets
 abbrev pub HasForests : Graph → Board → ℕ → List (Option Reach) → Type 0
 HasForests graph board nets forests = (n : ℕ) → n < nets → HasForestAt graph forests (source_of board n)
 
@@ -43,7 +45,7 @@ pub record AreMarked (board : Board) (nets : ℕ) (marks : List Bool) : Type 0 w
   pub marked : (n : ℕ) → n < nets → slice_index_or marks (source_of board n) false ≡ true
 
 -- the forests of the first FPGAs are made where they are marked
-pub record AreMade (graph : Graph) (marks : List Bool) (roots : ℕ) (forests : List (Option Reach)) : Type 0 where
-  pub count : length forests ≡ roots
-  pub made : (root : ℕ) → root < roots → slice_index_or marks root false ≡ true
-      → HasForestAt graph forests root
+pub record AreMade (graph : Graph) (marks : List Bool) (fpgas : ℕ) (forests : List (Option Reach))
+    : Type 0 where
+  pub count : length forests ≡ fpgas
+  pub made : (f : ℕ) → f < fpgas → slice_index_or marks f false ≡ true → HasForestAt graph forests f

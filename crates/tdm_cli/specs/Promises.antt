@@ -31,6 +31,7 @@ use Rattle.tdm_cli.specs.declared.status.Status.TheVariants as status
 use Rattle.tdm_cli.specs.Baseline.{most_uses}
 use Rattle.tdm_cli.specs.Routing.{IsBaselineValue}
 use Rattle.tdm_cli.specs.Improved.{MeetsBaselineRounds}
+use Rattle.tdm_cli.specs.Words.{usual_rounds}
 use Rattle.tdm_cli.specs.Reports.{route_report, size_report, demo_report, bound_report, steep_report, verdict_report}
 use Rattle.tdm_cli.specs.Request.{Request, route, eval, check, gen, demo}
 
@@ -48,9 +49,11 @@ abbrev pub Certifies : Files → Name → Board → Cert → Type 0
 Certifies files name board cert = (bytes : Bytes) × (get files name ≡ Some bytes)
     × (cert_of board bytes ≡ Ok cert)
 
--- a solution of the board, found by so many rounds, is written to one file and a certificate to another, both read back, and
+-- a solution of the board, found by so many rounds, is written to one file and a certificate to another, both
+-- read back, and
 -- their value and bound are said in such a report
-pub record IsWritten (board : Board) (files : Files) (solution cert : Name) (count : ℕ) (report : (value bound : ℕ) → Bytes) (before after : Seen) : Type 0 where
+pub record IsWritten (board : Board) (files : Files) (solution cert : Name) (count : ℕ)
+    (report : (value bound : ℕ) → Bytes) (before after : Seen) : Type 0 where
   pub routing : Routing
   pub legal : IsLegal board routing
   pub minimal : (n : ℕ) → n < length board.nets
@@ -74,19 +77,23 @@ pub record IsWritten (board : Board) (files : Files) (solution cert : Name) (cou
       ≡ option_map (λ s. s ++ report (value_of board routing) bound) (said_of before)
 
 -- a solution of the board in one file, found by so many rounds, and a certificate are written
-pub record IsRouted (files : Files) (name solution cert : Name) (count : ℕ) (before after : Seen) : Type 0 where
+pub record IsRouted (files : Files) (name solution cert : Name) (count : ℕ)
+    (before after : Seen) : Type 0 where
   pub board : Board
   pub described : Describes files name board
   pub routed : IsWritten board files solution cert count route_report before after
 
 -- the board of these numbers is written, reads back, and how large it is, is said
-pub record IsGenerated (files : Files) (fpgas nets groups : ℕ) (name : Name) (before after : Seen) : Type 0 where
+pub record IsGenerated (files : Files) (fpgas nets groups : ℕ) (name : Name)
+    (before after : Seen) : Type 0 where
   pub written : files_of after ≡ Some (with_file name (board_text (generated fpgas nets groups)) files)
   pub reads_back : board_of (board_text (generated fpgas nets groups)) ≡ Ok (generated fpgas nets groups)
   pub told : said_of after ≡ option_map (λ s. s ++ size_report (generated fpgas nets groups)) (said_of before)
 
--- the verdict on the solution in one file of the board in the other is right and is said, and no file is changed
-pub record IsJudged (files : Files) (name solution : Name) (before after : Seen) (verdict : Verdict) : Type 0 where
+-- the verdict on the solution in one file of the board in the other is right and is said, and no file is
+-- changed
+pub record IsJudged (files : Files) (name solution : Name) (before after : Seen)
+    (verdict : Verdict) : Type 0 where
   pub board : Board
   pub described : Describes files name board
   pub routing : Routing
@@ -95,7 +102,8 @@ pub record IsJudged (files : Files) (name solution : Name) (before after : Seen)
   pub kept : files_of after ≡ Some files
   pub told : said_of after ≡ option_map (λ s. s ++ verdict_report verdict) (said_of before)
 
--- the certificate in one file is valid for the board in the other and its bound is said, no legal solution's value is
+-- the certificate in one file is valid for the board in the other and its bound is said, no legal solution's
+-- value is
 -- below the bound, and no file is changed
 pub record IsBounded (files : Files) (name cert : Name) (before after : Seen) : Type 0 where
   pub board : Board
@@ -109,7 +117,8 @@ pub record IsBounded (files : Files) (name cert : Name) (before after : Seen) : 
   pub kept : files_of after ≡ Some files
   pub told : said_of after ≡ option_map (λ s. s ++ bound_report bound) (said_of before)
 
--- the certificate in one file is not valid for the board in the other and its first steep pair is said, and no file is
+-- the certificate in one file is not valid for the board in the other and its first steep pair is said, and
+-- no file is
 -- changed
 pub record IsRejected (files : Files) (name cert : Name) (before after : Seen) : Type 0 where
   pub board : Board
@@ -128,16 +137,18 @@ IsWorth (route board solution cert rounds) files before after status.Ok =
 IsWorth (eval board solution) files before after status.Ok =
     (value : ℕ) × IsJudged files board solution before after (Legal value)
 IsWorth (eval board solution) files before after status.Illegal = (verdict : Verdict)
-    × (SaysLegal verdict → ⊥) × IsJudged files board solution before after verdict
+    × ¬ SaysLegal verdict × IsJudged files board solution before after verdict
 IsWorth (check board cert) files before after status.Ok = IsBounded files board cert before after
 IsWorth (check board cert) files before after status.CertRejected = IsRejected files board cert before after
 IsWorth (gen fpgas nets groups board) files before after status.Ok =
     IsGenerated files fpgas nets groups board before after
 IsWorth (demo fpgas nets groups solution cert) files before after status.Ok =
-    IsWritten (generated fpgas nets groups) files solution cert 20 (demo_report (generated fpgas nets groups)) before after
+    IsWritten (generated fpgas nets groups) files solution cert usual_rounds
+    (demo_report (generated fpgas nets groups)) before after
 IsWorth request files before after answer = Unit {0}
 
--- no legal solution of a board has a value below the bound of a certificate that is accepted for it, whoever made it
+-- no legal solution of a board has a value below the bound of a certificate that is accepted for it, whoever
+-- made it
 abbrev pub BoundsHold : Type 0
 BoundsHold = (board_text cert_text : Bytes) (board : Board) (cert : Cert) (bound : ℕ)
     → board_of board_text ≡ Ok board → cert_of board cert_text ≡ Ok cert → IsValid board cert

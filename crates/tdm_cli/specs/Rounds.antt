@@ -1,5 +1,6 @@
--- Rounds: the groups are weighed, the nets rerouted for these weights, and the wires shared by the roots of the weights.
-use Rattle.std.specs.Prelude.{◌≡◌, ℕ, suc, ◌/◌, ◌^◌, ◌<◌, ◌≤◌, ◌⊎◌, List, [], ◌∷◌, length, map, slice_index, sum_by, replicate, All}
+-- Rounds: the groups are weighed, the nets rerouted for these weights, and the wires shared by the roots of
+-- the weights.
+use Rattle.std.specs.Prelude.{◌≡◌, ℕ, suc, ◌/◌, ◌<◌, ◌≤◌, ◌⊎◌, List, [], ◌∷◌, length, map, slice_index, sum_by, replicate, All}
 use Rattle.std.specs.List.{range_with_len}
 use Rattle.tdm_problem.specs.Board.{Board}
 use Rattle.tdm_problem.specs.Legal.{lanes_of}
@@ -12,6 +13,7 @@ use Rattle.group_multipliers.specs.Renewal.{renewed}
 use Rattle.even_legalise.specs.Shared.{shared_routing}
 use Rattle.bound_cert.specs.declared.certificate.CertKind.TheVariants.{Share}
 use Rattle.bound_cert.specs.Bound.{IsBound}
+use Rattle.bound_cert.specs.Limits.{uniform_weight}
 use Rattle.bound_cert.specs.Makers.{growing_cert}
 use Rattle.bound_cert.specs.Weighted.{IsShareBound}
 use Rattle.ripup_reroute.specs.Turns.{ArePasses}
@@ -26,9 +28,11 @@ pub record Round : Type 0 where
 -- the number of each net is the whole root of its weight
 pub record AreRoots (board : Board) (weights numbers : List ℕ) : Type 0 where
   pub count : length numbers ≡ length board.nets
-  pub each : (n : ℕ) → n < length board.nets → slice_index numbers n ≡ root_of (net_weight board.groups weights n)
+  pub each : (n : ℕ) → n < length board.nets
+      → slice_index numbers n ≡ root_of (net_weight board.groups weights n)
 
--- the round begins at these trees: its numbers are the roots of the weights of the nets, and four passes over all nets
+-- the round begins at these trees: its numbers are the roots of the weights of the nets, and four passes over
+-- all nets
 -- in order lead to its trees
 pub record Reroutes (board : Board) (before : List (List ℕ)) (round : Round) : Type 0 where
   pub roots : AreRoots board round.weights round.numbers
@@ -68,17 +72,19 @@ abbrev pub next_of : Board → Round → List ℕ
 next_of board round = renewed round.weights (map (group_sum (solution_of_round board round)) board.groups)
 
 -- rounds that follow one another from these weights and trees: so many, or up to the first that does not fit
-pub data AreRounds (board : Board) : (left : ℕ) (weights : List ℕ) (before : List (List ℕ)) (rounds : List Round) → Type 0 where
+pub data AreRounds (board : Board) : (left : ℕ) (weights : List ℕ) (before : List (List ℕ))
+    (rounds : List Round) → Type 0 where
   done : (weights : List ℕ) (before : List (List ℕ)) → AreRounds board 0 weights before []
   stops : (left : ℕ) (before : List (List ℕ)) (round : Round) → Reroutes board before round → ¬ FitsUses round
       → AreRounds board (suc left) round.weights before (round ∷ [])
-  goes_on : (left : ℕ) (before : List (List ℕ)) (round : Round) (rounds : List Round) → Reroutes board before round
+  goes_on : (left : ℕ) (before : List (List ℕ)) (round : Round) (rounds : List Round)
+      → Reroutes board before round
       → FitsUses round → AreRounds board left (next_of board round) round.trees rounds
       → AreRounds board (suc left) round.weights before (round ∷ rounds)
 
--- the weights of the first round: 2^20 for each group
+-- the weights of the first round: the same for each group
 abbrev pub first_weights : Board → List ℕ
-first_weights board = replicate (length board.groups) (2 ^ 20)
+first_weights board = replicate (length board.groups) uniform_weight
 
 -- a list of so many rounds: from the first weights and these trees
 abbrev pub IsRoundList : Board → (baseline : List (List ℕ)) → (count : ℕ) → List Round → Type 0
@@ -92,12 +98,15 @@ pub record IsMet (board : Board) (value bound : ℕ) (round : Round) : Type 0 wh
 -- of the rounds this is the last that fits
 abbrev pub IsLastFit : List Round → (last : Round) → Type 0
 IsLastFit [] last = ⊥
-IsLastFit (round ∷ after) last = ((last ≡ round) × FitsUses round × All (λ r. ¬ FitsUses r) after) ⊎ IsLastFit after last
+IsLastFit (round ∷ after) last = ((last ≡ round) × FitsUses round × All (λ r. ¬ FitsUses r) after)
+    ⊎ IsLastFit after last
 
--- there is one list of so many rounds that the value and the bound both meet, and the bound is at least the bound by growth
+-- there is one list of so many rounds that the value and the bound both meet, and the bound is at least the
+-- bound by growth
 -- of the last of them that fits
 pub record MeetsRounds (board : Board) (baseline : List (List ℕ)) (count value bound : ℕ) : Type 0 where
   pub rounds : List Round
   pub list : IsRoundList board baseline count rounds
   pub met : All (IsMet board value bound) rounds
-  pub grown : (last : Round) → IsLastFit rounds last → (other : ℕ) → IsRoundGrowthBound board last other → other ≤ bound
+  pub grown : (last : Round) → IsLastFit rounds last → (other : ℕ) → IsRoundGrowthBound board last other
+      → other ≤ bound

@@ -25,7 +25,8 @@ IsBaselineValue board value = (trees : List (List ℕ)) × AreBaseTrees board tr
 pub record IsRouting (board : Board) (routing : Routing) (cert : Cert) (bound : ℕ) : Type 0 where
   pub for_board : IsFor board routing
   pub legal : IsLegal board routing
-  pub minimal : (n : ℕ) → n < length board.nets → IsMinimalTree board (wires_of (uses_of routing n)) (terminals_of board n)
+  pub minimal : (n : ℕ) → n < length board.nets
+      → IsMinimalTree board (wires_of (uses_of routing n)) (terminals_of board n)
   pub few : sum_by length routing ≤ most_uses
   pub sayable : IsSayable board routing
   pub no_worse : (value : ℕ) → IsBaselineValue board value → value_of board routing ≤ value

@@ -14,14 +14,22 @@ pub record NamesTwo (verb : List ℕ) (words : List (List ℕ)) (first second : 
 abbrev pub IsNumber : (most : ℕ) → List ℕ → ℕ → Type 0
 IsNumber most word number = (word ≡ digits number) × (number ≤ most)
 
--- the words behind the names ask for so many rounds: where there are none for 20, and else one is a number of at most
--- 1000
+-- how many rounds are done where the words name no number
+abbrev pub usual_rounds : ℕ
+usual_rounds = 20
+
+-- the most rounds that words may ask for
+abbrev pub most_rounds : ℕ
+most_rounds = 1000
+
+-- the words behind the names ask for so many rounds: the usual ones without any, and else one is the number
 abbrev pub AskRounds : List (List ℕ) → ℕ → Type 0
-AskRounds [] rounds = rounds ≡ 20
-AskRounds (word ∷ []) rounds = IsNumber 1000 word rounds
+AskRounds [] rounds = rounds ≡ usual_rounds
+AskRounds (word ∷ []) rounds = IsNumber most_rounds word rounds
 AskRounds _ rounds = ⊥
 
--- the words are `route BOARD SOLUTION CERT`, or these and a number of rounds, each name of at least one byte, and the
+-- the words are `route BOARD SOLUTION CERT`, or these and a number of rounds, each name of at least one byte,
+-- and the
 -- outputs two files
 pub record IsRoute (words : List (List ℕ)) (board solution cert : List ℕ) (rounds : ℕ) : Type 0 where
   pub further : List (List ℕ)
@@ -71,7 +79,8 @@ pub record IsDemo (words : List (List ℕ)) (fpgas nets groups : ℕ) (solution 
 
 -- the words are one of the lists that the program knows
 pub data IsCommand (words : List (List ℕ)) : Type 0 where
-  is_route : (board solution cert : List ℕ) (rounds : ℕ) → IsRoute words board solution cert rounds → IsCommand words
+  is_route : (board solution cert : List ℕ) (rounds : ℕ) → IsRoute words board solution cert rounds
+      → IsCommand words
   is_eval : (board solution : List ℕ) → IsEval words board solution → IsCommand words
   is_check : (board cert : List ℕ) → IsCheck words board cert → IsCommand words
   is_gen : (fpgas nets groups : ℕ) (board : List ℕ) → IsGen words fpgas nets groups board → IsCommand words

@@ -44,7 +44,8 @@ impl From<AllocError> for Obstacle {
     }
 }
 
-/// The trees of the nets so far, their uses, and the nets that no wires join. Past the limit on uses no tree is kept.
+/// The trees of the nets so far, their uses, and the nets that no wires join. Past the limit on uses no tree
+/// is kept.
 #[derive(Drop)]
 struct Progress {
     trees: Trees,
@@ -159,8 +160,9 @@ impl Progress {
     }
 }
 
-/// The baseline tree of each net, or why the nets have no solution that may be written: Unconnectable exactly where no
-/// wires join some net, UseLimit where all are joined and the trees have more than [`MAX_USES`] wires together.
+/// The baseline tree of each net, or why the nets have no solution that may be written: Unconnectable exactly
+/// where no wires join some net, UseLimit where all are joined and the trees have more than [`MAX_USES`]
+/// wires together.
 pub fn baseline_trees(
     alloc: Global,
     problem: &Problem,
@@ -192,8 +194,8 @@ pub fn baseline_trees(
     Ok(progress.trees)
 }
 
-/// The baseline solution of a problem, with these baseline trees: all nets on a wire have one ratio. The only error is
-/// want of memory.
+/// The baseline solution of a problem, with these baseline trees: all nets on a wire have one ratio. The only
+/// error is want of memory.
 pub fn baseline(alloc: Global, problem: &Problem, trees: &Trees) -> Result<Solution, AllocError>
     requires board { IsBoard problem.now }
     requires joined { AllConnectable problem.now }

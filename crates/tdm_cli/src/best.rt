@@ -37,8 +37,8 @@ pub struct Best {
     pub certified: Certified,
 }
 
-/// Keeps the solution that shares give where its value is less than the best. The sums are those that it gives the
-/// groups: it is made only where it is kept.
+/// Keeps the solution that shares give where its value is less than the best. The sums are those that it
+/// gives the groups: it is made only where it is kept.
 pub(crate) fn keep_solution(
     alloc: Global,
     problem: &Problem,
@@ -52,7 +52,8 @@ pub(crate) fn keep_solution(
     requires few { sum_by length trees.now ≤ most_uses }
     requires count { length numbers.now ≡ length problem.now.nets }
     requires small { All (λ number. number ≤ 2 ^ 30) numbers.now }
-    requires sums { sums.now ≡ map (group_sum (shared_routing problem.now trees.now numbers.now)) problem.now.groups }
+    requires sums { sums.now ≡ map (group_sum (shared_routing problem.now trees.now numbers.now))
+        problem.now.groups }
     requires best { IsBest problem.now best.old.solution best.old.value best.old.certified }
     ensures best { OnOk result (IsBest problem.now best.new.solution best.new.value best.new.certified) }
     ensures lower { OnOk result (best.new.value ≤ best.old.value) }
@@ -68,13 +69,14 @@ pub(crate) fn keep_solution(
     Ok(())
 }
 
-/// Whether ratios are traded in a round, where so many were done before: in the first eight, and then in every fourth.
+/// Whether ratios are traded in a round, where so many were done before: in the first eight, and then in
+/// every fourth.
 fn is_for_trade(done: u32) -> bool {
     done < 8 || done % 4 == 3
 }
 
-/// Trades ratios on the trees of a round, where so many were done before, beginning with ratios by the numbers of the nets.
-/// Keeps the solution that is found where its value is less than the best.
+/// Trades ratios on the trees of a round, where so many were done before, beginning with ratios by the
+/// numbers of the nets. Keeps the solution that is found where its value is less than the best.
 pub(crate) fn keep_traded(
     alloc: Global,
     problem: &Problem,
@@ -146,7 +148,8 @@ pub(crate) fn keep_checked(
     requires best { IsBest problem.now best.old.solution best.old.value best.old.certified }
     ensures best { OnOk result (IsBest problem.now best.new.solution best.new.value best.new.certified) }
     ensures higher { OnOk result (best.old.certified.bound ≤ best.new.certified.bound) }
-    ensures bound { OnOk result ((other : ℕ) → IsBound problem.now cert other → other ≤ best.new.certified.bound) }
+    ensures bound { OnOk result ((other : ℕ) → IsBound problem.now cert other
+        → other ≤ best.new.certified.bound) }
     ensures value { best.new.value ≡ best.old.value }
 {
     let bound = checked_bound(alloc, problem, &cert)?;
@@ -157,8 +160,8 @@ pub(crate) fn keep_checked(
     Ok(())
 }
 
-/// Keeps the certificate by shares at the weights of the groups and at the loads of a round's trees as lengths, where its
-/// bound is greater than the best.
+/// Keeps the certificate by shares at the weights of the groups and at the loads of a round's trees as
+/// lengths, where its bound is greater than the best.
 pub(crate) fn keep_certificate(
     alloc: Global,
     problem: &Problem,
@@ -172,7 +175,8 @@ pub(crate) fn keep_certificate(
     requires best { IsBest problem.now best.old.solution best.old.value best.old.certified }
     ensures best { OnOk result (IsBest problem.now best.new.solution best.new.value best.new.certified) }
     ensures higher { OnOk result (best.old.certified.bound ≤ best.new.certified.bound) }
-    ensures bound { OnOk result ((wire_length : ℕ → ℕ) → ListsLengths problem.now candidate.now.lengths.items wire_length
+    ensures bound { OnOk result ((wire_length : ℕ → ℕ)
+        → ListsLengths problem.now candidate.now.lengths.items wire_length
         → (other : ℕ) → IsShareBound problem.now candidate.now.weights.items wire_length other
         → other ≤ best.new.certified.bound) }
     ensures value { best.new.value ≡ best.old.value }

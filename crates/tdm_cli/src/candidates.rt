@@ -3,8 +3,8 @@ ghost use Rattle.std.specs.Prelude.{◌≡◌, None, Some, IfSome};
 ghost use Rattle.tdm_problem.specs.Board.{Board};
 ghost use Rattle.tdm_cli.specs.Candidates.{IsCandidate, AreCandidates};
 
-/// The weights of the groups in a round and the loads of the wires after it: what its certificate by growth is made of, and
-/// about what bound it has.
+/// The weights of the groups in a round and the loads of the wires after it: what its certificate by growth
+/// is made of, and about what bound it has.
 #[derive(Drop)]
 pub struct Candidate {
     pub weights: Vec<u64>,
@@ -27,7 +27,8 @@ impl Candidate {
     }
 }
 
-/// The squares of the lengths over the sum of the weights: the bound by growth, if each net grew as far as its tree is long.
+/// The squares of the lengths over the sum of the weights: the bound by growth, if each net grew as far as
+/// its tree is long.
 fn foretold(weights: &[u64], lengths: &[u64]) -> u128 {
     let mut squares: u128 = 0;
     for length in lengths {

@@ -71,8 +71,8 @@ fn certify_by_shares(
     Ok(Certified { cert, bound })
 }
 
-/// Of the certificate by hops and the one by shares the one with the greater bound, the one by hops on a tie. All
-/// nets can be joined, and the graph is that of the problem's board. The only error is want of memory.
+/// Of the certificate by hops and the one by shares the one with the greater bound, the one by hops on a tie.
+/// All nets can be joined, and the graph is that of the problem's board. The only error is want of memory.
 pub fn best_certificate(
     alloc: Global,
     problem: &Problem,

@@ -25,7 +25,8 @@ fn status(answer: CheckAnswer) -> Status
     }
 }
 
-/// Whether a certificate is valid for the problem: its bound, or its first steep pair. The only error is want of memory.
+/// Whether a certificate is valid for the problem: its bound, or its first steep pair. The only error is want
+/// of memory.
 pub fn check(
     alloc: Global,
     problem: &Problem,

@@ -13,7 +13,8 @@ const MAX_ROUNDS: u32 = 1000;
 /// What the words of a command line ask for. A name is a file's, and not empty.
 #[derive(Clone, Copy, Debug)]
 pub enum Command<'a> {
-    /// Route the board of one file by so many rounds, and write the solution and the certificate to two others.
+    /// Route the board of one file by so many rounds, and write the solution and the certificate to two
+    /// others.
     Route {
         board: &'a str,
         solution: &'a str,
@@ -116,7 +117,8 @@ fn number(word: &str, most: u32) -> Option<u32>
     Some(number)
 }
 
-/// The command `route` with so many rounds, if the verb is that and the names are those of an input and of two outputs.
+/// The command `route` with so many rounds, if the verb is that and the names are those of an input and of
+/// two outputs.
 fn parse_route<'a>(
     verb: &str,
     board: &'a str,
@@ -151,7 +153,8 @@ struct Sizes {
     groups: u32,
 }
 
-/// The numbers of FPGAs, nets and groups that three words are, if they are those of a board that can be generated.
+/// The numbers of FPGAs, nets and groups that three words are, if they are those of a board that can be
+/// generated.
 fn parse_sizes(fpgas: &str, nets: &str, groups: &str) -> Option<Sizes>
     ensures found { IfSome result
         (λ sizes. AskSizes fpgas.now nets.now groups.now sizes.fpgas sizes.nets sizes.groups) }
@@ -216,7 +219,8 @@ fn parse_five<'a>(
     parse_rounds(verb, first, second, third, fourth)
 }
 
-/// The command `demo`, if the verb is that and the words behind it are its numbers and the names of two outputs.
+/// The command `demo`, if the verb is that and the words behind it are its numbers and the names of two
+/// outputs.
 fn parse_demo<'a>(
     verb: &str,
     fpgas: &str,

@@ -17,31 +17,37 @@ ghost use Rattle.tdm_cli.specs.TwoRounds.{first_round, second_round, four_on_two
 fn reports_are_lines()
     ensures common { usage_report ∷ read_fault_report 1 ∷ no_input_report 1 ∷ []
         ≡ codes "words refused\n" ∷ codes "read fault input 1\n" ∷ codes "no input 1\n" ∷ [] }
-    ensures refused { board_refused_report (codes "MissingLine") 4 ∷ solution_refused_report (codes "RepeatedWire") 3
+    ensures refused { board_refused_report (codes "MissingLine") 4 ∷ solution_refused_report
+        (codes "RepeatedWire") 3
         ∷ cert_refused_report (codes "BadKind") 1 ∷ []
         ≡ codes "board refused MissingLine line 4\n" ∷ codes "solution refused RepeatedWire line 3\n"
         ∷ codes "certificate refused BadKind line 1\n" ∷ [] }
-    ensures routed { route_report 10 10 ∷ unconnectable_report (0 ∷ 2 ∷ []) ∷ use_limit_report ∷ size_report star ∷ []
+    ensures routed { route_report 10 10 ∷ unconnectable_report (0 ∷ 2 ∷ []) ∷ use_limit_report
+        ∷ size_report star ∷ []
         ≡ codes "value 10\nbound 10\n" ∷ codes "unconnectable net 0\nunconnectable net 2\n"
         ∷ codes "too many uses\n" ∷ codes "fpgas 4 wires 3 nets 1 groups 1\n" ∷ [] }
-    ensures judged { verdict_report (Legal 20) ∷ verdict_report (NotJoined 0) ∷ verdict_report (BadRatio 0 0 3)
+    ensures judged { verdict_report (Legal 20) ∷ verdict_report (NotJoined 0) ∷ verdict_report
+        (BadRatio 0 0 3)
         ∷ verdict_report (Overfull 0) ∷ []
         ≡ codes "value 20\n" ∷ codes "illegal net 0 not joined\n" ∷ codes "illegal net 0 wire 0 ratio 3\n"
         ∷ codes "illegal wire 0 overfull\n" ∷ [] }
-    ensures checked { answer_report (Accepted 10) ∷ answer_report (Rejected (record { potential = 0; wire = 0 })) ∷ []
+    ensures checked { answer_report (Accepted 10)
+        ∷ answer_report (Rejected (record { potential = 0; wire = 0 })) ∷ []
         ≡ codes "bound 10\n" ∷ codes "steep potential 0 wire 0\n" ∷ [] }
 {}
 
 /// Each status ends the process with a number of its own.
 fn statuses_have_codes()
     ensures { code_of Ok ∷ code_of BoardRefused ∷ code_of Usage ∷ code_of Unconnectable ∷ code_of ReadFault
-        ∷ code_of WriteFault ∷ code_of OutOfMemory ∷ code_of SolutionRefused ∷ code_of Illegal ∷ code_of CertRefused
+        ∷ code_of WriteFault ∷ code_of OutOfMemory ∷ code_of SolutionRefused ∷ code_of Illegal
+        ∷ code_of CertRefused
         ∷ code_of CertRejected ∷ code_of UseLimit ∷ code_of NoInput ∷ []
         ≡ 0 ∷ 1 ∷ 2 ∷ 3 ∷ 4 ∷ 5 ∷ 6 ∷ 7 ∷ 8 ∷ 9 ∷ 10 ∷ 11 ∷ 14 ∷ [] }
 {}
 
-/// In the first round three of four nets that weigh the same share a wire, and their groups' sums are twice that of the fourth.
-/// So in the second round they weigh twice as much, and one of them moves to the fourth net's wire, of which it gets more.
+/// In the first round three of four nets that weigh the same share a wire, and their groups' sums are twice
+/// that of the fourth. So in the second round they weigh twice as much, and one of them moves to the fourth
+/// net's wire, of which it gets more.
 fn rounds_weigh_move_and_share()
     ensures weights { first_weights four_on_two ≡ first_round.weights }
     ensures root { IsRoot (net_weight four_on_two.groups first_round.weights 2) 1024 }

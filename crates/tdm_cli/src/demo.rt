@@ -23,7 +23,8 @@ fn with_size(
     routed: Prepared<Status, Output>,
 ) -> Result<Prepared<Status, Output>, AllocError>
     ensures { IfOk result (λ prepared. (opened : ℕ) → outcome_of text_of opened prepared
-        ≡ comes_to opened routed.status (size_report problem.now ++ routed.report.items) (map text_of routed.texts.items)) }
+        ≡ comes_to opened routed.status (size_report problem.now ++ routed.report.items)
+        (map text_of routed.texts.items)) }
 {
     let mut report = report::size(alloc, problem)?;
     report.extend_from_slice(&routed.report)?;
@@ -34,8 +35,8 @@ fn with_size(
     })
 }
 
-/// Routes the board of these numbers, and says how large it is before its value and bound, unless its baseline has too many
-/// uses. The only error is want of memory.
+/// Routes the board of these numbers, and says how large it is before its value and bound, unless its
+/// baseline has too many uses. The only error is want of memory.
 pub fn demo(
     alloc: Global,
     fpgas: u32,

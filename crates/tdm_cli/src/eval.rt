@@ -26,7 +26,8 @@ fn status(verdict: &Verdict) -> Status
     }
 }
 
-/// Whether a solution is legal for the problem: its value, or its first violation. The only error is want of memory.
+/// Whether a solution is legal for the problem: its value, or its first violation. The only error is want of
+/// memory.
 pub fn eval(
     alloc: Global,
     problem: &Problem,

@@ -28,8 +28,8 @@ fn creates_nothing(desk: &MemoryDesk) -> bool {
     desk.file("s").is_none() && desk.file("c").is_none()
 }
 
-/// Routes the board where one call on an input fails; whether that is reported and nothing is created, and None where the
-/// run ends with Ok before that call.
+/// Routes the board where one call on an input fails; whether that is reported and nothing is created, and
+/// None where the run ends with Ok before that call.
 fn reports_failed_read(alloc: Global, calls: u64) -> Result<Option<bool>, AllocError>
     requires { 0 < calls }
 {
@@ -63,9 +63,9 @@ fn is_begun(file: Option<&[u8]>, whole: &[u8]) -> bool {
     }
 }
 
-/// Routes the board by pieces of one byte where one call on an output or the report fails; whether that is answered, no
-/// more than first parts are written and said, and the second output and the report are begun only behind whole outputs,
-/// and None where the run ends with Ok before that call.
+/// Routes the board by pieces of one byte where one call on an output or the report fails; whether that is
+/// answered, no more than first parts are written and said, and the second output and the report are begun
+/// only behind whole outputs, and None where the run ends with Ok before that call.
 fn stops_at_failed_write(alloc: Global, calls: u64) -> Result<Option<bool>, AllocError>
     requires { 0 < calls }
 {
@@ -96,7 +96,8 @@ fn each_failing_write_leaves_first_parts(rt: HostRuntime) -> Result<(), Fail> {
             None => break,
         }
     }
-    // two outputs are created and finished, and each byte of them and of the report is written by a call of its own
+    // two outputs are created and finished, and each byte of them and of the report is written by a call of
+    // its own
     assert!(rt; 26 < stopped && stopped < 99);
     Ok(())
 }

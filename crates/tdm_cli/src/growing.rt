@@ -14,8 +14,8 @@ use cert_checker::growths;
 use std::alloc::{AllocError, Global};
 use tdm_problem::{Problem, Solution};
 
-/// Keeps the certificate by growth of the last round where its bound is greater than the best, and that of an earlier round
-/// of which a greater bound is foretold.
+/// Keeps the certificate by growth of the last round where its bound is greater than the best, and that of an
+/// earlier round of which a greater bound is foretold.
 pub(crate) fn keep_grown_rounds(
     alloc: Global,
     problem: &Problem,
@@ -27,7 +27,8 @@ pub(crate) fn keep_grown_rounds(
     ensures best { OnOk result (IsBest problem.now best.new.solution best.new.value best.new.certified) }
     ensures higher { OnOk result (best.old.certified.bound ≤ best.new.certified.bound) }
     ensures last { OnOk result (IfSome candidates.now.last (λ candidate. (other : ℕ)
-        → IsBound problem.now (growing_cert problem.now Share candidate.weights.items candidate.lengths.items) other
+        → IsBound problem.now (growing_cert problem.now Share candidate.weights.items candidate.lengths.items)
+        other
         → other ≤ best.new.certified.bound)) }
     ensures value { best.new.value ≡ best.old.value }
 {
@@ -39,8 +40,8 @@ pub(crate) fn keep_grown_rounds(
     Ok(())
 }
 
-/// Keeps the certificate by growth of a round, if there is one, of which more is foretold than this, where its bound is greater
-/// than the best.
+/// Keeps the certificate by growth of a round, if there is one, of which more is foretold than this, where
+/// its bound is greater than the best.
 fn keep_stronger(
     alloc: Global,
     problem: &Problem,
@@ -63,7 +64,8 @@ fn keep_stronger(
     keep_grown(alloc, problem, candidate, best)
 }
 
-/// Keeps the certificate by shares and by growth with these weights and lengths where its bound is greater than the best.
+/// Keeps the certificate by shares and by growth with these weights and lengths where its bound is greater
+/// than the best.
 fn keep_grown(
     alloc: Global,
     problem: &Problem,
@@ -75,7 +77,8 @@ fn keep_grown(
     ensures best { OnOk result (IsBest problem.now best.new.solution best.new.value best.new.certified) }
     ensures higher { OnOk result (best.old.certified.bound ≤ best.new.certified.bound) }
     ensures bound { OnOk result ((other : ℕ)
-        → IsBound problem.now (growing_cert problem.now Share candidate.now.weights.items candidate.now.lengths.items) other
+        → IsBound problem.now
+        (growing_cert problem.now Share candidate.now.weights.items candidate.now.lengths.items) other
         → other ≤ best.new.certified.bound) }
     ensures value { best.new.value ≡ best.old.value }
 {
@@ -84,8 +87,8 @@ fn keep_grown(
     Ok(())
 }
 
-/// Keeps the certificate by hops and by growth for one group where its bound is greater than the best: for that whose nets
-/// grow most together over wires of length 1.
+/// Keeps the certificate by hops and by growth for one group where its bound is greater than the best: for
+/// that whose nets grow most together over wires of length 1.
 pub(crate) fn keep_grown_group(
     alloc: Global,
     problem: &Problem,
@@ -105,8 +108,9 @@ pub(crate) fn keep_grown_group(
     keep_checked(alloc, problem, cert, best)
 }
 
-/// The group whose nets grow most together over wires of length 1, where only nets grow that are in a group which may lead to a
-/// bound above this: twice the number of the wires of its nets, than which no growth is greater, is above it.
+/// The group whose nets grow most together over wires of length 1, where only nets grow that are in a group
+/// which may lead to a bound above this: twice the number of the wires of its nets, than which no growth is
+/// greater, is above it.
 fn group_of_most_growth(
     alloc: Global,
     problem: &Problem,
@@ -135,8 +139,8 @@ fn group_of_most_growth(
     Ok(found)
 }
 
-/// Gives the weight 1 to the nets of each group of which twice the number of wires is above the bound, and answers whether
-/// there is such a group.
+/// Gives the weight 1 to the nets of each group of which twice the number of wires is above the bound, and
+/// answers whether there is such a group.
 fn mark_promising(problem: &Problem, solution: &Solution, bound: u128, weights: &mut [u64]) -> bool
     requires solution { length solution.now ≡ length problem.now.nets }
     requires weights { length weights.old ≡ length problem.now.nets }

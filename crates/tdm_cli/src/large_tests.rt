@@ -44,7 +44,8 @@ fn path_board(alloc: Global, fpgas: u32, nets: u32) -> Result<Vec<u8>, AllocErro
     Ok(text)
 }
 
-/// A ring of 20 FPGAs with 360 nets, from each FPGA to others before and behind it, each net a group of its own.
+/// A ring of 20 FPGAs with 360 nets, from each FPGA to others before and behind it, each net a group of its
+/// own.
 fn ring_board(alloc: Global) -> Result<Vec<u8>, AllocError> {
     let mut text = Vec::new(alloc);
     push_header(&mut text, 20, 20, 360, 360)?;

@@ -1,5 +1,5 @@
-//! The command `tdm`: routes the nets of a board of many FPGAs and gives each net a ratio on each wire it uses, judges
-//! such solutions, and checks certificates of what no such solution can be worth less than.
+//! The command `tdm`: routes the nets of a board of many FPGAs and gives each net a ratio on each wire it
+//! uses, judges such solutions, and checks certificates of what no such solution can be worth less than.
 #![tactic(auto)]
 
 mod answer_report;
@@ -43,8 +43,8 @@ use std::io::ErrorKind;
 use std::process::ExitCode;
 use tdm_desk::StdDesk;
 
-/// Collects the words, runs the command over the real files and the standard output, and ends with its code: 6 where
-/// memory ran out, and 2 where there are no words for another cause, as for a word that is not UTF-8.
+/// Collects the words, runs the command over the real files and the standard output, and ends with its code:
+/// 6 where memory ran out, and 2 where there are no words for another cause, as for a word that is not UTF-8.
 fn main(rt: HostRuntime) -> ExitCode {
     let alloc = rt.alloc();
     let mut words = match env::args(&rt) {

@@ -4,6 +4,7 @@ ghost use Rattle.std.specs.List.{range_with_len};
 ghost use Rattle.tdm_problem.specs.Board.{Board};
 ghost use Rattle.tdm_problem.specs.Roots.{root_of};
 ghost use Rattle.tdm_problem.specs.Trees.{HasRisingRows};
+ghost use Rattle.bound_cert.specs.Limits.{most_weight};
 ghost use Rattle.net_groups.specs.Incidence.{IsIncidenceOf};
 ghost use Rattle.tdm_cli.specs.Baseline.{most_uses};
 ghost use Rattle.tdm_cli.specs.Rounds.{AreRoots};
@@ -21,7 +22,7 @@ pub(crate) fn numbers_of(
     weights: &[u64],
 ) -> Result<Vec<u64>, AllocError>
     requires count { length weights.now ≡ incidence.now.groups }
-    requires small { All (λ weight. weight ≤ 2 ^ 40) weights.now }
+    requires small { All (λ weight. weight ≤ most_weight) weights.now }
     ensures roots { IfOk result (λ numbers. (board : Board) → IsIncidenceOf board incidence.now
         → AreRoots board weights.now numbers.items) }
     ensures small { IfOk result (λ numbers. All (λ number. number ≤ 2 ^ 30) numbers.items) }

@@ -30,8 +30,8 @@ pub struct Plan {
     pub report: Vec<u8>,
 }
 
-/// What there is before the rounds: the baseline with these trees, and the better of the certificates by hops and by
-/// shares. The only error is want of memory.
+/// What there is before the rounds: the baseline with these trees, and the better of the certificates by hops
+/// and by shares. The only error is want of memory.
 fn best_of_baseline(
     alloc: Global,
     problem: &Problem,
@@ -71,10 +71,11 @@ fn best_of_rounds(alloc: Global, problem: &Problem, rounds: u32) -> Result<Best,
     }
 }
 
-/// Routes the nets of a problem by so many rounds and certifies its board, or says why the nets have no solution that
-/// may be written.
+/// Routes the nets of a problem by so many rounds and certifies its board, or says why the nets have no
+/// solution that may be written.
 pub fn prepare(alloc: Global, problem: &Problem, rounds: u32) -> Result<Plan, Obstacle>
-    ensures plan { IfOk result (λ plan. (bound : ℕ) × IsImproved problem.now rounds plan.solution plan.cert bound
+    ensures plan { IfOk result (λ plan. (bound : ℕ)
+        × IsImproved problem.now rounds plan.solution plan.cert bound
         × (plan.report.items ≡ route_report (value_of problem.now plan.solution) bound)) }
     ensures obstacle { IfErr result (ObstacleShows problem.now) }
 {

@@ -1,14 +1,14 @@
 //! The texts that commands read.
-ghost use Rattle.std.specs.Prelude.{◌≡◌, ◌≤◌, ◌^◌, ◌+◌, ℕ, List, [], length, take, vec_len, Ok, IfOk};
+ghost use Rattle.std.specs.Prelude.{◌≡◌, ◌≤◌, ◌+◌, ℕ, List, [], length, take, vec_len, Ok, IfOk};
 ghost use Rattle.tdm_problem.specs.Board.{Board};
 ghost use Rattle.tdm_problem.specs.Routing.{Routing};
 ghost use Rattle.contest_input.specs.Reader.{IsAt as IsAtBoard};
-ghost use Rattle.contest_input.specs.BoardText.{board_of};
+ghost use Rattle.contest_input.specs.BoardText.{board_of, most_bytes as most_board_bytes};
 ghost use Rattle.solution_text.specs.Reader.{IsAt as IsAtSolution};
-ghost use Rattle.solution_text.specs.Reading.{solution_of};
+ghost use Rattle.solution_text.specs.Reading.{solution_of, most_bytes as most_solution_bytes};
 ghost use Rattle.bound_cert.specs.Certificate.{Cert};
 ghost use Rattle.bound_cert.specs.CertReader.{IsAt as IsAtCert};
-ghost use Rattle.bound_cert.specs.CertReading.{cert_of};
+ghost use Rattle.bound_cert.specs.CertReading.{cert_of, most_bytes as most_cert_bytes};
 ghost use Rattle.tdm_cli.specs.Kinds.{boards, solutions, certificates};
 ghost use Rattle.tdm_cli.specs.declared.reading.SolutionText.{SolutionText};
 ghost use Rattle.tdm_cli.specs.declared.reading.CertText.{CertText};
@@ -39,10 +39,12 @@ impl BoardText {
     }
 }
 
-/// A text that is accepted is within its limit, and a longer one is refused for any bytes behind one past the limit.
+/// A text that is accepted is within its limit, and a longer one is refused for any bytes behind one past the
+/// limit.
 fn long_boards_are_refused()
-    ensures same { (text : List ℕ) → board_of (take (2 ^ 28 + 1) text) ≡ board_of text }
-    ensures within { (text : List ℕ) (board : Board) → board_of text ≡ Ok board → length text ≤ 2 ^ 28 }
+    ensures same { (text : List ℕ) → board_of (take (most_board_bytes + 1) text) ≡ board_of text }
+    ensures within { (text : List ℕ) (board : Board)
+        → board_of text ≡ Ok board → length text ≤ most_board_bytes }
 {
     contest_input::a_cut_text_says_the_same();
 }
@@ -56,7 +58,7 @@ impl TextReader for BoardText {
 
     ghost kind = { λ _. boards };
 
-    ghost limit = { λ _. 2 ^ 28 };
+    ghost limit = { λ _. most_board_bytes };
 
     ghost is_at = { λ it text. IsAtBoard it.reader text };
 
@@ -112,10 +114,13 @@ impl<'a> SolutionText<'a> {
     }
 }
 
-/// A text that is accepted is within its limit, and a longer one is refused for any bytes behind one past the limit.
+/// A text that is accepted is within its limit, and a longer one is refused for any bytes behind one past the
+/// limit.
 fn long_solutions_are_refused()
-    ensures same { (board : Board) (text : List ℕ) → solution_of board (take (2 ^ 30 + 1) text) ≡ solution_of board text }
-    ensures within { (board : Board) (text : List ℕ) (routing : Routing) → solution_of board text ≡ Ok routing → length text ≤ 2 ^ 30 }
+    ensures same { (board : Board) (text : List ℕ)
+        → solution_of board (take (most_solution_bytes + 1) text) ≡ solution_of board text }
+    ensures within { (board : Board) (text : List ℕ) (routing : Routing)
+        → solution_of board text ≡ Ok routing → length text ≤ most_solution_bytes }
 {
     solution_text::cut_text_says_the_same();
 }
@@ -129,7 +134,7 @@ impl TextReader for SolutionText<'_> {
 
     ghost kind = { λ it. solutions it.problem.now };
 
-    ghost limit = { λ _. 2 ^ 30 };
+    ghost limit = { λ _. most_solution_bytes };
 
     ghost is_at = { λ it text. IsAtSolution it.reader it.problem.now text };
 
@@ -162,7 +167,8 @@ impl TextReader for SolutionText<'_> {
     }
 
     fn report(alloc: Global, refusal: SolutionRefusal) -> Result<Vec<u8>, AllocError>
-        ensures { IfOk result (λ text. (it : SolutionText) → text.items ≡ (solutions it.problem.now).report refusal) }
+        ensures { IfOk result (λ text. (it : SolutionText)
+            → text.items ≡ (solutions it.problem.now).report refusal) }
     {
         refused(
             alloc,
@@ -194,10 +200,13 @@ impl<'a> CertText<'a> {
     }
 }
 
-/// A text that is accepted is within its limit, and a longer one is refused for any bytes behind one past the limit.
+/// A text that is accepted is within its limit, and a longer one is refused for any bytes behind one past the
+/// limit.
 fn long_certificates_are_refused()
-    ensures same { (board : Board) (text : List ℕ) → cert_of board (take (2 ^ 30 + 1) text) ≡ cert_of board text }
-    ensures within { (board : Board) (text : List ℕ) (cert : Cert) → cert_of board text ≡ Ok cert → length text ≤ 2 ^ 30 }
+    ensures same { (board : Board) (text : List ℕ)
+        → cert_of board (take (most_cert_bytes + 1) text) ≡ cert_of board text }
+    ensures within { (board : Board) (text : List ℕ) (cert : Cert)
+        → cert_of board text ≡ Ok cert → length text ≤ most_cert_bytes }
 {
     bound_cert::cut_text_says_the_same();
 }
@@ -211,7 +220,7 @@ impl TextReader for CertText<'_> {
 
     ghost kind = { λ it. certificates it.problem.now };
 
-    ghost limit = { λ _. 2 ^ 30 };
+    ghost limit = { λ _. most_cert_bytes };
 
     ghost is_at = { λ it text. IsAtCert it.reader it.problem.now text };
 
@@ -244,7 +253,8 @@ impl TextReader for CertText<'_> {
     }
 
     fn report(alloc: Global, refusal: CertRefusal) -> Result<Vec<u8>, AllocError>
-        ensures { IfOk result (λ text. (it : CertText) → text.items ≡ (certificates it.problem.now).report refusal) }
+        ensures { IfOk result (λ text. (it : CertText)
+            → text.items ≡ (certificates it.problem.now).report refusal) }
     {
         refused(
             alloc,

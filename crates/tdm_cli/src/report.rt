@@ -29,8 +29,8 @@ pub fn value(alloc: Global, value: u128) -> Result<Vec<u8>, AllocError>
     line(alloc, b"value ", value)
 }
 
-/// `value V`, and on a further line `bound L`: what the written solution is worth, and what no legal solution's value
-/// is below.
+/// `value V`, and on a further line `bound L`: what the written solution is worth, and what no legal
+/// solution's value is below.
 pub fn routed(alloc: Global, value: u128, bound: u128) -> Result<Vec<u8>, AllocError>
     ensures { IfOk result (λ text. text.items ≡ route_report value bound) }
 {

@@ -1,5 +1,5 @@
-//! Rounds: the groups are weighed by how bad they are, the nets rerouted for these weights, and the wires shared by the
-//! roots of the weights.
+//! Rounds: the groups are weighed by how bad they are, the nets rerouted for these weights, and the wires
+//! shared by the roots of the weights.
 ghost use Rattle.std.specs.Prelude.{◌≡◌, ◌<◌, ◌≤◌, ◌^◌, ℕ, length, replicate, true, false, None, All, IfOk, OnOk};
 ghost use Rattle.std.specs.List.{range_with_len};
 ghost use Rattle.tdm_problem.specs.Legal.{AllConnectable};
@@ -28,8 +28,8 @@ use tdm_problem::{Problem, Trees};
 /// How many passes over all nets a round makes.
 const PASSES: u32 = 4;
 
-/// What a round begins with: the weights of the groups, the trees, the best so far, and what is remembered of the rounds
-/// before.
+/// What a round begins with: the weights of the groups, the trees, the best so far, and what is remembered of
+/// the rounds before.
 #[derive(Drop)]
 struct Running {
     weights: Vec<u64>,
@@ -38,12 +38,13 @@ struct Running {
     candidates: Candidates,
 }
 
-/// Improves a solution and a certificate by so many rounds, from the baseline's trees, makes certificates by growth, and then
-/// lowers ratios of the best solution until none can be lowered by 2. The value does not rise, and the bound does not fall;
-/// unless the value becomes 0, one list of rounds meets both, and the bound is at least that by growth of the last of them
-/// that fits. Rounds end early where the value is 0, and after the first whose trees have more wires than may be written.
-/// Method: Lagrangian weights on the groups, renewed by how large their sums are; shares by the roots of the weights, which
-/// are the best where ratios are any real numbers (Cauchy and Schwarz). The only error is want of memory.
+/// Improves a solution and a certificate by so many rounds, from the baseline's trees, makes certificates by
+/// growth, and then lowers ratios of the best solution until none can be lowered by 2. The value does not
+/// rise, and the bound does not fall; unless the value becomes 0, one list of rounds meets both, and the
+/// bound is at least that by growth of the last of them that fits. Rounds end early where the value is 0, and
+/// after the first whose trees have more wires than may be written. Method: Lagrangian weights on the groups,
+/// renewed by how large their sums are; shares by the roots of the weights, which are the best where ratios
+/// are any real numbers (Cauchy and Schwarz). The only error is want of memory.
 pub fn improve(
     alloc: Global,
     problem: &Problem,
@@ -101,7 +102,8 @@ fn all_rounds(
     requires nets { nets.now ≡ range_with_len 0 (length problem.now.nets) }
     requires weights { AreWeights problem.now running.old.weights.items }
     requires minimal { AreMinimalTrees problem.now running.old.trees }
-    requires best { IsBest problem.now running.old.best.solution running.old.best.value running.old.best.certified }
+    requires best { IsBest problem.now running.old.best.solution running.old.best.value
+        running.old.best.certified }
     requires candidates { AreCandidates problem.now running.old.candidates }
     ensures best { OnOk result (IsBest problem.now
         running.new.best.solution running.new.best.value running.new.best.certified) }
@@ -121,8 +123,9 @@ fn all_rounds(
     Ok(())
 }
 
-/// Does a round, where so many were done before. Answers whether another may follow: not where its trees have more wires
-/// than may be written, and not where the best value is 0.
+/// Does a round, where so many were done before. Answers whether another may follow: not where its trees have
+/// more wires than may be written, and not where its shares bring the best value to 0. The trade comes last,
+/// when the round has nothing more in memory than what the next one begins with.
 fn round(
     alloc: Global,
     problem: &Problem,
@@ -138,7 +141,8 @@ fn round(
     requires nets { nets.now ≡ range_with_len 0 (length problem.now.nets) }
     requires weights { AreWeights problem.now running.old.weights.items }
     requires minimal { AreMinimalTrees problem.now running.old.trees }
-    requires best { IsBest problem.now running.old.best.solution running.old.best.value running.old.best.certified }
+    requires best { IsBest problem.now running.old.best.solution running.old.best.value
+        running.old.best.certified }
     requires candidates { AreCandidates problem.now running.old.candidates }
     ensures weights { OnOk result (AreWeights problem.now running.new.weights.items) }
     ensures minimal { OnOk result (AreMinimalTrees problem.now running.new.trees) }
@@ -178,6 +182,15 @@ fn round(
         &sums,
         &mut running.best,
     )?;
+    if running.best.value == 0 {
+        return Ok(false);
+    }
+    let next = next_weights(alloc, &running.weights, &sums)?;
+    drop(sums);
+    let candidate = candidate_of(alloc, problem, &running.weights, &running.trees, &numbers)?;
+    keep_certificate(alloc, problem, graph, &candidate, &mut running.best)?;
+    running.candidates.add(candidate);
+    running.weights = next;
     keep_traded(
         alloc,
         problem,
@@ -187,13 +200,6 @@ fn round(
         done,
         &mut running.best,
     )?;
-    let candidate = candidate_of(alloc, problem, &running.weights, &running.trees, &numbers)?;
-    keep_certificate(alloc, problem, graph, &candidate, &mut running.best)?;
-    running.candidates.add(candidate);
-    if running.best.value == 0 {
-        return Ok(false);
-    }
-    running.weights = next_weights(alloc, &running.weights, &sums)?;
     Ok(true)
 }
 

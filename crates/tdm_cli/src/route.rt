@@ -46,8 +46,8 @@ fn obstructed(alloc: Global, obstacle: &Obstacle) -> Result<Prepared<Status, Out
     }
 }
 
-/// Routes the nets of a problem by so many rounds: a solution and a certificate with their value and bound, or why there
-/// are none. The only error is want of memory.
+/// Routes the nets of a problem by so many rounds: a solution and a certificate with their value and bound,
+/// or why there are none. The only error is want of memory.
 pub fn route(
     alloc: Global,
     problem: &Problem,

@@ -4,8 +4,8 @@ use std::test::Fail;
 use tdm_desk::MemoryDesk;
 use tdm_lines::decimal;
 
-/// Runs of `route` over a board: the words, the board, the code that the run ends with, what is said, and the solution
-/// that is written at code 0. A `/` ends a line of a text, and `-` stands for no file.
+/// Runs of `route` over a board: the words, the board, the code that the run ends with, what is said, and the
+/// solution that is written at code 0. A `/` ends a line of a text, and `-` stands for no file.
 const ROUTED: &str = "route b s c|2 1 1 1/0 1/0 1/0/|0|value 2/bound 2/|1/0 2/
 route b s c|2 1 2 2/0 1/0 1/0 1/0/1/|0|value 2/bound 2/|1/0 2/1/0 2/
 route b s c|2 1 3 1/0 1/0 1/0 1/0 1/0 1 2/|0|value 10/bound 10/|1/0 2/1/0 4/1/0 4/
@@ -160,8 +160,8 @@ fn says(
     Ok(ended && desk.report() == said.as_bytes())
 }
 
-/// Whether routing ends so and says this. At code 0 it writes this solution and a certificate, of which `eval` and `check`
-/// then say the same value and bound; else it writes no file at all.
+/// Whether routing ends so and says this. At code 0 it writes this solution and a certificate, of which
+/// `eval` and `check` then say the same value and bound; else it writes no file at all.
 fn routes(alloc: Global, row: &str) -> Result<bool, AllocError> {
     let (words, rest) = field(row);
     let (board, rest) = field(rest);

@@ -16,8 +16,10 @@ use Rattle.tdm_desk.proofs.SlotLaws.{put-at, put-put, at-map, map-put}
 
 module _ {F : Type 0} where
   -- a file was taken out and put back
-  pub put_back : (place : Place) (file later : F) (start middle last : Slots (Option F)) → Some file ≡ at place start
-      → middle ≡ put place None start → last ≡ put place (Some later) middle → map_slots is_some last ≡ map_slots is_some start
+  pub put_back : (place : Place) (file later : F) (start middle last : Slots (Option F))
+      → Some file ≡ at place start
+      → middle ≡ put place None start → last ≡ put place (Some later) middle
+      → map_slots is_some last ≡ map_slots is_some start
   put_back place file later start middle last there out back =
       ap (map_slots is_some) (back ∙ ap (put place (Some later)) out ∙ put-put place None (Some later) start)
       ∙ map-put is_some place (Some later) start
@@ -25,13 +27,16 @@ module _ {F : Type 0} where
       ∙ put-at place (map_slots is_some start)
 
   -- no file stands at a place that is open
-  pub not_none : (place : Place) (files : Slots (Option F)) (file : Option F) → file ≡ at place files → file ≡ None → at place (map_slots is_some files) ≡ true → ⊥
+  pub not_none : (place : Place) (files : Slots (Option F)) (file : Option F) → file ≡ at place files
+      → file ≡ None → at place (map_slots is_some files) ≡ true → ⊥
   not_none place files file there none is-open =
       let e : false ≡ true = ap is_some (sym none ∙ there) ∙ sym (at-map is_some place files) ∙ is-open in cc
 
 -- ---- the counts
 
-counts_kept : (old new : RealDesk) → ((slot : InSlot) → read_faults slot old.counts ≤ read_faults slot new.counts) → write_faults old.counts ≤ write_faults new.counts → CountsFaults counts_of_real never old new
+counts_kept : (old new : RealDesk)
+    → ((slot : InSlot) → read_faults slot old.counts ≤ read_faults slot new.counts)
+    → write_faults old.counts ≤ write_faults new.counts → CountsFaults counts_of_real never old new
 counts_kept old new reading writing = record {
   reading_kept = reading;
   writing_kept = writing;
@@ -45,37 +50,50 @@ counts_same old new same = counts_kept old new
     (let e = ap write_faults same in omega (arith, e))
 
 -- what is seen does not hold the counts
-pub seen_counted : (counts : Counts) (old new : RealDesk) → new ≡ record old { counts = counts } → seen_of_real new ≡ seen_of_real old
+pub seen_counted : (counts : Counts) (old new : RealDesk) → new ≡ record old { counts = counts }
+    → seen_of_real new ≡ seen_of_real old
 unfolding seen_of_real
 seen_counted counts old new is = ap seen_of_real is
 
 -- ---- the calls of a desk that tells nothing
 
-pub opened_real : (slot : InSlot) (name : Name) (place : Place) (old new : RealDesk) → place ≡ input_place slot
-    → new ≡ record old { inputs = put place true old.inputs } → seen_of_real new ≡ opened slot name (seen_of_real old)
+pub opened_real : (slot : InSlot) (name : Name) (place : Place) (old new : RealDesk)
+    → place ≡ input_place slot
+    → new ≡ record old { inputs = put place true old.inputs }
+    → seen_of_real new ≡ opened slot name (seen_of_real old)
 unfolding seen_of_real opened
-opened_real slot name place old new here is = ap seen_of_real (is ∙ ap (λ p. record old { inputs = put p true old.inputs }) here)
+opened_real slot name place old new here is =
+    ap seen_of_real (is ∙ ap (λ p. record old { inputs = put p true old.inputs }) here)
 
 pub closed_real : (slot : InSlot) (place : Place) (old new : RealDesk) → place ≡ input_place slot
-    → new ≡ record old { inputs = put place false old.inputs } → seen_of_real new ≡ input_closed slot (seen_of_real old)
+    → new ≡ record old { inputs = put place false old.inputs }
+    → seen_of_real new ≡ input_closed slot (seen_of_real old)
 unfolding seen_of_real input_closed
-closed_real slot place old new here is = ap seen_of_real (is ∙ ap (λ p. record old { inputs = put p false old.inputs }) here)
+closed_real slot place old new here is =
+    ap seen_of_real (is ∙ ap (λ p. record old { inputs = put p false old.inputs }) here)
 
-pub created_real : (slot : OutSlot) (name : Name) (place : Place) (old new : RealDesk) → place ≡ output_place slot
-    → new ≡ record old { outputs = put place true old.outputs } → seen_of_real new ≡ created slot name (seen_of_real old)
+pub created_real : (slot : OutSlot) (name : Name) (place : Place) (old new : RealDesk)
+    → place ≡ output_place slot
+    → new ≡ record old { outputs = put place true old.outputs }
+    → seen_of_real new ≡ created slot name (seen_of_real old)
 unfolding seen_of_real created
-created_real slot name place old new here is = ap seen_of_real (is ∙ ap (λ p. record old { outputs = put p true old.outputs }) here)
+created_real slot name place old new here is =
+    ap seen_of_real (is ∙ ap (λ p. record old { outputs = put p true old.outputs }) here)
 
 pub finished_real : (slot : OutSlot) (place : Place) (old new : RealDesk) → place ≡ output_place slot
-    → new ≡ record old { outputs = put place false old.outputs } → seen_of_real new ≡ output_closed slot (seen_of_real old)
+    → new ≡ record old { outputs = put place false old.outputs }
+    → seen_of_real new ≡ output_closed slot (seen_of_real old)
 unfolding seen_of_real output_closed
-finished_real slot place old new here is = ap seen_of_real (is ∙ ap (λ p. record old { outputs = put p false old.outputs }) here)
+finished_real slot place old new here is =
+    ap seen_of_real (is ∙ ap (λ p. record old { outputs = put p false old.outputs }) here)
 
-pub taken_real : (slot : InSlot) (count : ℕ) (desk : RealDesk) → seen_of_real desk ≡ taken slot count (seen_of_real desk)
+pub taken_real : (slot : InSlot) (count : ℕ) (desk : RealDesk)
+    → seen_of_real desk ≡ taken slot count (seen_of_real desk)
 unfolding seen_of_real taken
 taken_real slot count desk = refl
 
-pub written_real : (slot : OutSlot) (bytes : Bytes) (desk : RealDesk) → seen_of_real desk ≡ written slot bytes (seen_of_real desk)
+pub written_real : (slot : OutSlot) (bytes : Bytes) (desk : RealDesk)
+    → seen_of_real desk ≡ written slot bytes (seen_of_real desk)
 unfolding seen_of_real written
 written_real slot bytes desk = refl
 
@@ -83,11 +101,13 @@ pub said_real : (bytes : Bytes) (desk : RealDesk) → seen_of_real desk ≡ said
 unfolding seen_of_real said
 said_real bytes desk = refl
 
-pub open_input_real : (slot : InSlot) (place : Place) (desk : RealDesk) → place ≡ input_place slot → input_is_open slot (seen_of_real desk) ≡ true → at place desk.inputs ≡ true
+pub open_input_real : (slot : InSlot) (place : Place) (desk : RealDesk) → place ≡ input_place slot
+    → input_is_open slot (seen_of_real desk) ≡ true → at place desk.inputs ≡ true
 unfolding seen_of_real input_is_open
 open_input_real slot place desk here is-open = ap (λ p. at p desk.inputs) here ∙ is-open
 
-pub open_output_real : (slot : OutSlot) (place : Place) (desk : RealDesk) → place ≡ output_place slot → output_is_open slot (seen_of_real desk) ≡ true → at place desk.outputs ≡ true
+pub open_output_real : (slot : OutSlot) (place : Place) (desk : RealDesk) → place ≡ output_place slot
+    → output_is_open slot (seen_of_real desk) ≡ true → at place desk.outputs ≡ true
 unfolding seen_of_real output_is_open
 open_output_real slot place desk here is-open = ap (λ p. at p desk.outputs) here ∙ is-open
 
@@ -96,6 +116,7 @@ pub no_files : {P : Type 0} (desk : RealDesk) (files : Files) → files_of (seen
 unfolding seen_of_real files_of
 no_files desk files is = absurd (let e : None ≡ Some files = is in cc)
 
-pub no_rest : {P : Type 0} (slot : InSlot) (desk : RealDesk) (rest : Bytes) → rest_of slot (seen_of_real desk) ≡ Some rest → P
+pub no_rest : {P : Type 0} (slot : InSlot) (desk : RealDesk) (rest : Bytes) → rest_of slot (seen_of_real desk)
+    ≡ Some rest → P
 unfolding seen_of_real rest_of
 no_rest slot desk rest is = absurd (let e : None ≡ Some rest = is in cc)

@@ -43,7 +43,8 @@ at-map f First s = refl
 at-map f Second s = refl
 at-map f Third s = refl
 
-pub map-put : {A B : Type 0} (f : A → B) (p : Place) (a : A) (s : Slots A) → map_slots f (put p a s) ≡ put p (f a) (map_slots f s)
+pub map-put : {A B : Type 0} (f : A → B) (p : Place) (a : A) (s : Slots A)
+    → map_slots f (put p a s) ≡ put p (f a) (map_slots f s)
 unfolding put
 map-put f First a s = refl
 map-put f Second a s = refl

@@ -53,7 +53,8 @@ unfoldable pub write_counted : Counts → Counts
 write_counted counts = with_write_faults (one_more (write_faults counts)) counts
 
 module _ {D : Type 0} (counts : D → Counts) (steady : D → Type 0) where
-  -- from one state of a desk to a later one: no count fell, and a steady desk stayed steady and kept its counts
+  -- from one state of a desk to a later one: no count fell, and a steady desk stayed steady and kept its
+  -- counts
   pub record CountsFaults (before after : D) : Type 0 where
     pub reading_kept : (slot : InSlot) → read_faults slot (counts before) ≤ read_faults slot (counts after)
     pub writing_kept : write_faults (counts before) ≤ write_faults (counts after)
@@ -63,12 +64,12 @@ module _ {D : Type 0} (counts : D → Counts) (steady : D → Type 0) where
   -- a fault of an input is shown by its count, and the desk was not steady
   pub record ReadingFailed (slot : InSlot) (before after : D) : Type 0 where
     pub rose : Rose (read_faults slot (counts before)) (read_faults slot (counts after))
-    pub unsteady : steady before → ⊥
+    pub unsteady : ¬ steady before
 
   -- a fault of what is written or said is shown by its count, and the desk was not steady
   pub record WritingFailed (before after : D) : Type 0 where
     pub rose : Rose (write_faults (counts before)) (write_faults (counts after))
-    pub unsteady : steady before → ⊥
+    pub unsteady : ¬ steady before
 
 module _ {D : Type 0} (counts : D → Counts) where
   -- a fault of an input was counted once and changed no other count, and want of memory changed none
@@ -81,7 +82,8 @@ module _ {D : Type 0} (counts : D → Counts) where
   CountsOnlyReading slot (Ok answer) before after = counts after ≡ counts before
   CountsOnlyReading slot (Err fault) before after = CountsReadFault slot fault before after
 
-  -- a fault of what is written or said was counted once and changed no other count, and want of memory changed none
+  -- a fault of what is written or said was counted once and changed no other count, and want of memory
+  -- changed none
   abbrev pub CountsWriteFault : DeskFault → D → D → Type 0
   CountsWriteFault NoMemory before after = counts after ≡ counts before
   CountsWriteFault Failed before after = counts after ≡ write_counted (counts before)

@@ -123,4 +123,5 @@ PrefixWritten slot bytes before after = (count : ℕ) × (after ≡ written slot
 
 -- a prefix of these bytes was said, which may be empty, and not all of them
 abbrev pub PrefixSaid : Bytes → Seen → Seen → Type 0
-PrefixSaid bytes before after = (count : ℕ) × (count < length bytes) × (after ≡ said (take count bytes) before)
+PrefixSaid bytes before after = (count : ℕ) × (count < length bytes)
+    × (after ≡ said (take count bytes) before)

@@ -14,8 +14,8 @@ use crate::plan::{PieceLimit, Plan};
 use crate::slots::{InSlot, OutSlot};
 use std::alloc::{AllocError, Global};
 
-/// A desk in memory. It tells its bytes, and just those of its calls answer `DeskFault::Failed` that were planned to. It is
-/// steady where no planned failure is still to come.
+/// A desk in memory. It tells its bytes, and just those of its calls answer `DeskFault::Failed` that were
+/// planned to. It is steady where no planned failure is still to come.
 #[derive(Drop)]
 pub struct MemoryDesk {
     memory: MemoryStore,
@@ -24,7 +24,8 @@ pub struct MemoryDesk {
 }
 
 impl MemoryDesk {
-    /// A desk with no files, on which nothing is open, nothing was said, no failure is planned and pieces have no bound.
+    /// A desk with no files, on which nothing is open, nothing was said, no failure is planned and pieces
+    /// have no bound.
     pub fn new(alloc: Global) -> MemoryDesk
         ensures memory { result.memory ≡ empty_memory }
         ensures plan { NoneToCome result.plan }
@@ -62,8 +63,8 @@ impl MemoryDesk {
         self.memory.report()
     }
 
-    /// Makes one later call fail: the one that comes as the `calls`-th from now, counted over those that open or read an
-    /// input. It may be called several times. Where memory is wanting, nothing changes.
+    /// Makes one later call fail: the one that comes as the `calls`-th from now, counted over those that open
+    /// or read an input. It may be called several times. Where memory is wanting, nothing changes.
     pub fn fail_read(&mut self, calls: u64) -> Result<(), AllocError>
         requires { 0 < calls }
         ensures ok { OnOk result (self.new ≡ record self.old {
@@ -74,8 +75,9 @@ impl MemoryDesk {
         self.plan.reading.add(calls)
     }
 
-    /// Makes one later call fail: the one that comes as the `calls`-th from now, counted over those that create, write,
-    /// finish or say. It may be called several times. Where memory is wanting, nothing changes.
+    /// Makes one later call fail: the one that comes as the `calls`-th from now, counted over those that
+    /// create, write, finish or say. It may be called several times. Where memory is wanting, nothing
+    /// changes.
     pub fn fail_write(&mut self, calls: u64) -> Result<(), AllocError>
         requires { 0 < calls }
         ensures ok { OnOk result (self.new ≡ record self.old {
@@ -109,7 +111,8 @@ impl MemoryDesk {
         fails
     }
 
-    /// Whether the call that writes or says and is made now is planned to fail. If it is, its fault is counted.
+    /// Whether the call that writes or says and is made now is planned to fail. If it is, its fault is
+    /// counted.
     fn fails_writing(&mut self) -> bool
         ensures answer { result ≡ fails_next self.old.plan.writing }
         ensures memory { self.new.memory ≡ self.old.memory }

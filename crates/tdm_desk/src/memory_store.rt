@@ -65,7 +65,10 @@ impl MemoryStore {
 
     /// Makes the file of this name hold these bytes. Where memory is wanting, nothing changes.
     pub fn put_file(&mut self, name: &str, bytes: &[u8]) -> Result<(), AllocError>
-        ensures ok { OnOk result (self.new ≡ record self.old { files = with_file name.now bytes.now self.old.files }) }
+        ensures ok { OnOk result (self.new ≡ record self.old {
+          files =
+              with_file name.now bytes.now self.old.files;
+        }) }
         ensures err { OnErr result (self.new ≡ self.old) }
     {
         self.files.put(name, bytes)
@@ -143,11 +146,12 @@ impl MemoryStore {
         }
     }
 
-    /// Opens the file of this name as an input, and answers whether there is one. Where there is none, or memory is
-    /// wanting, the slot is closed.
+    /// Opens the file of this name as an input, and answers whether there is one. Where there is none, or
+    /// memory is wanting, the slot is closed.
     pub fn open_input(&mut self, slot: InSlot, name: &str) -> Result<bool, AllocError>
         ensures ok { IfOk result (λ found. seen_in_memory self.new ≡
-            (if found then opened slot name.now (seen_in_memory self.old) else input_closed slot (seen_in_memory self.old))) }
+            (if found then opened slot name.now (seen_in_memory self.old) else input_closed slot
+            (seen_in_memory self.old))) }
         ensures found { IfOk result (λ found. ForSome (files_of (seen_in_memory self.old))
             (λ files. found ≡ contains_key files name.now)) }
         ensures err { OnErr result (seen_in_memory self.new ≡ input_closed slot (seen_in_memory self.old)) }
@@ -186,8 +190,8 @@ impl MemoryStore {
         self.give(slot.place(), buf)
     }
 
-    /// Makes the file of this name empty, and opens it as an output. Where memory is wanting, the files are as they were,
-    /// and the slot is closed.
+    /// Makes the file of this name empty, and opens it as an output. Where memory is wanting, the files are
+    /// as they were, and the slot is closed.
     pub fn create(&mut self, slot: OutSlot, name: &str) -> Result<(), AllocError>
         ensures ok { OnOk result (seen_in_memory self.new ≡ created slot name.now (seen_in_memory self.old)) }
         ensures err { OnErr result (seen_in_memory self.new ≡ output_closed slot (seen_in_memory self.old)) }
@@ -202,7 +206,8 @@ impl MemoryStore {
     /// Adds bytes to the file of an open output. Where memory is wanting, nothing changes.
     pub fn write(&mut self, slot: OutSlot, piece: &[u8]) -> Result<(), AllocError>
         requires { IsTrue (output_is_open slot (seen_in_memory self.old)) }
-        ensures ok { OnOk result (seen_in_memory self.new ≡ written slot piece.now (seen_in_memory self.old)) }
+        ensures ok { OnOk result (seen_in_memory self.new
+            ≡ written slot piece.now (seen_in_memory self.old)) }
         ensures err { OnErr result (self.new ≡ self.old) }
     {
         self.append(slot.place(), piece)?;

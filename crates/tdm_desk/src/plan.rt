@@ -5,7 +5,8 @@ ghost use Rattle.tdm_desk.specs.Plan.{fails_next, after_call};
 use std::alloc::{AllocError, Global};
 use std::marker::Model;
 
-/// Failures of one kind of call, each by how many calls from now it comes: 1 for the next call, and 0 where it has come.
+/// Failures of one kind of call, each by how many calls from now it comes: 1 for the next call, and 0 where
+/// it has come.
 #[derive(Drop)]
 pub struct Countdowns {
     calls: Vec<u64>,

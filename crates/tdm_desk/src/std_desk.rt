@@ -140,8 +140,8 @@ impl<R: Files + Print + Drop> StdDesk<R> {
     }
 }
 
-/// Asks the system to take the bytes of a file. Of a pipe, a terminal or a device it may be unable to do so, and then
-/// nothing is left to take.
+/// Asks the system to take the bytes of a file. Of a pipe, a terminal or a device it may be unable to do so,
+/// and then nothing is left to take.
 fn taken_by_the_system<F: OpenFile>(file: &F) -> io::Result<()> {
     match file.sync_all() {
         Err(error) if has_no_store(error.kind()) => Ok(()),
@@ -149,7 +149,8 @@ fn taken_by_the_system<F: OpenFile>(file: &F) -> io::Result<()> {
     }
 }
 
-/// Whether an error of this kind says that what was written to has no store, so that there is none to wait for.
+/// Whether an error of this kind says that what was written to has no store, so that there is none to wait
+/// for.
 fn has_no_store(kind: ErrorKind) -> bool {
     matches!(kind, ErrorKind::InvalidInput | ErrorKind::Unsupported)
 }

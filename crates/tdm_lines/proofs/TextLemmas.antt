@@ -14,7 +14,8 @@ module _ {X : Type 0} (p : X → Bool) where
   pub before_first-cons_yes : (x : X) (xs : List X) → p x ≡ true → before_first p (x ∷ xs) ≡ []
   before_first-cons_yes x xs e = ap (λ b. take (cond (not b) (1 + position_or_len p xs) 0) (x ∷ xs)) e
 
-  pub before_first-cons_no : (x : X) (xs : List X) → p x ≡ false → before_first p (x ∷ xs) ≡ x ∷ before_first p xs
+  pub before_first-cons_no : (x : X) (xs : List X) → p x ≡ false
+      → before_first p (x ∷ xs) ≡ x ∷ before_first p xs
   before_first-cons_no x xs e =
       let next : 1 + position_or_len p xs ≡ suc (position_or_len p xs) = omega arith in
       ap (λ b. take (cond (not b) (1 + position_or_len p xs) 0) (x ∷ xs)) e ∙ ap (λ k. take k (x ∷ xs)) next
@@ -25,7 +26,8 @@ module _ {X : Type 0} (p : X → Bool) where
   pub after_first-cons_no : (x : X) (xs : List X) → p x ≡ false → after_first p (x ∷ xs) ≡ after_first p xs
   after_first-cons_no x xs e =
       let next : 1 + position_or_len p xs + 1 ≡ suc (position_or_len p xs + 1) = omega arith in
-      ap (λ b. drop (cond (not b) (1 + position_or_len p xs) 0 + 1) (x ∷ xs)) e ∙ ap (λ k. drop k (x ∷ xs)) next
+      ap (λ b. drop (cond (not b) (1 + position_or_len p xs) 0 + 1) (x ∷ xs)) e
+      ∙ ap (λ k. drop k (x ∷ xs)) next
 
 -- a blank adds no token
 pub tokens-blank : (byte : ℕ) (more : List ℕ) → is_blank byte ≡ true → tokens (byte ∷ more) ≡ tokens more
@@ -39,18 +41,25 @@ pub SameAhead-refl : (text : List ℕ) → SameAhead text text
 SameAhead-refl text = record { same_tokens = refl; same_lines = refl }
 
 -- past a blank the text goes on the same
-pub SameAhead-blank : (text more : List ℕ) (byte : ℕ) → is_blank byte ≡ true → SameAhead text (byte ∷ more) → SameAhead text more
+pub SameAhead-blank : (text more : List ℕ) (byte : ℕ) → is_blank byte ≡ true → SameAhead text (byte ∷ more)
+    → SameAhead text more
 SameAhead-blank text more byte e h = record {
-  same_tokens = h.same_tokens ∙ ap tokens (before_first-cons_no (λ b. b == 10) byte more (blank-no_feed byte e)) ∙ tokens-blank byte (before_first (λ b. b == 10) more) e;
+  same_tokens = h.same_tokens
+      ∙ ap tokens (before_first-cons_no (λ b. b == 10) byte more (blank-no_feed byte e))
+      ∙ tokens-blank byte (before_first (λ b. b == 10) more) e;
   same_lines = h.same_lines ∙ after_first-cons_no (λ b. b == 10) byte more (blank-no_feed byte e);
 }
 
 -- a text from a place on
-pub drop-step : (bytes : List ℕ) (at : ℕ) → at < length bytes → drop at bytes ≡ get_or bytes at 0 ∷ drop (at + 1) bytes
-drop-step bytes at lt = drop-cons bytes at 0 lt ∙ ap (λ k. get_or bytes at 0 ∷ drop k bytes) (sym (add-one at))
+pub drop-step : (bytes : List ℕ) (at : ℕ) → at < length bytes
+    → drop at bytes ≡ get_or bytes at 0 ∷ drop (at + 1) bytes
+drop-step bytes at lt = drop-cons bytes at 0 lt ∙ ap (λ k. get_or bytes at 0 ∷ drop k bytes)
+    (sym (add-one at))
 
-pub SameAhead-skip : (text bytes : List ℕ) (at : ℕ) → at < length bytes → is_blank (get_or bytes at 0) ≡ true → SameAhead text (drop at bytes) → SameAhead text (drop (at + 1) bytes)
-SameAhead-skip text bytes at lt e h = let P : List ℕ → Type 0 = SameAhead text in SameAhead-blank text _ _ e (subst P (drop-step bytes at lt) h)
+pub SameAhead-skip : (text bytes : List ℕ) (at : ℕ) → at < length bytes → is_blank (get_or bytes at 0) ≡ true
+    → SameAhead text (drop at bytes) → SameAhead text (drop (at + 1) bytes)
+SameAhead-skip text bytes at lt e h = let P : List ℕ → Type 0 = SameAhead text in
+    SameAhead-blank text _ _ e (subst P (drop-step bytes at lt) h)
 
 pub both : (a b : Bool) → (a && b) ≡ true → (a ≡ true) × (b ≡ true)
 both true b h = (refl, h)
@@ -71,7 +80,8 @@ unfoldable pub IsCut : List ℕ → Type 0
 IsCut [] = Unit {0}
 IsCut (byte ∷ more) = is_token_byte byte ≡ false
 
-pub IsCut-at : (bytes : List ℕ) (at : ℕ) → (at < length bytes → is_token_byte (get_or bytes at 0) ≡ false) → IsCut (drop at bytes)
+pub IsCut-at : (bytes : List ℕ) (at : ℕ) → (at < length bytes → is_token_byte (get_or bytes at 0) ≡ false)
+    → IsCut (drop at bytes)
 unfolding IsCut
 IsCut-at bytes at h =
     let P : List ℕ → Type 0 = IsCut in
@@ -85,31 +95,39 @@ token-passes token some = grind (arith, common_steps)
 
 -- the bytes before a text's end, or before its first blank, are a token
 tokens-run : (token more : List ℕ) → list_all is_token_byte token ≡ true → 0 < length token
-    → (more ≡ []) ⊎ ((byte : ℕ) × (later : List ℕ) × (more ≡ byte ∷ later) × (is_blank byte ≡ true)) → tokens (token ++ more) ≡ token ∷ tokens more
+    → (more ≡ []) ⊎ ((byte : ℕ) × (later : List ℕ) × (more ≡ byte ∷ later) × (is_blank byte ≡ true))
+    → tokens (token ++ more) ≡ token ∷ tokens more
 tokens-run token more h some cut =
     let here : is_token token ≡ true = token-passes token some in
-    let dark : All (λ x. is_blank x ≡ false) token = λ k d lt. (neither _ _ (AllPass-from_list_all is_token_byte token h k d lt)).1 in
+    let dark : All (λ x. is_blank x ≡ false) token =
+    λ k d lt. (neither _ _ (AllPass-from_list_all is_token_byte token h k d lt)).1 in
     let kept : (rest : List (List ℕ)) → filter is_token (token ∷ rest) ≡ token ∷ filter is_token rest =
     λ rest. ap (λ c. cond c (token ∷ filter is_token rest) (filter is_token rest)) here in
     elim cut [
-      | inl e ↦ rw e (ap tokens (append-nil token) ∙ ap (filter is_token) (slice_split_none is_blank token dark) ∙ kept [])
-      | inr w ↦ rw w.2 (ap (filter is_token) (slice_split_at is_blank token w.0 w.1 dark w.3) ∙ kept (slice_split is_blank w.1) ∙ ap (λ ts. token ∷ ts) (sym (tokens-blank w.0 w.1 w.3)))
+      | inl e ↦ rw e (ap tokens (append-nil token)
+          ∙ ap (filter is_token) (slice_split_none is_blank token dark) ∙ kept [])
+      | inr w ↦ rw w.2 (ap (filter is_token) (slice_split_at is_blank token w.0 w.1 dark w.3)
+          ∙ kept (slice_split is_blank w.1) ∙ ap (λ ts. token ∷ ts) (sym (tokens-blank w.0 w.1 w.3)))
     ]
 
-before-run : (token later : List ℕ) → list_all is_token_byte token ≡ true → before_first (λ b. b == 10) (token ++ later) ≡ token ++ before_first (λ b. b == 10) later
+before-run : (token later : List ℕ) → list_all is_token_byte token ≡ true
+    → before_first (λ b. b == 10) (token ++ later) ≡ token ++ before_first (λ b. b == 10) later
 before-run [] later h = refl
 before-run (x ∷ xs) later h =
     let split = both _ _ h in
-    before_first-cons_no (λ b. b == 10) x (xs ++ later) (neither _ _ split.0).0 ∙ ap (λ l. x ∷ l) (before-run xs later split.1)
+    before_first-cons_no (λ b. b == 10) x (xs ++ later) (neither _ _ split.0).0
+    ∙ ap (λ l. x ∷ l) (before-run xs later split.1)
 
-after-run : (token later : List ℕ) → list_all is_token_byte token ≡ true → after_line (token ++ later) ≡ after_line later
+after-run : (token later : List ℕ) → list_all is_token_byte token ≡ true
+    → after_line (token ++ later) ≡ after_line later
 after-run [] later h = refl
 after-run (x ∷ xs) later h =
     let split = both _ _ h in
     after_first-cons_no (λ b. b == 10) x (xs ++ later) (neither _ _ split.0).0 ∙ after-run xs later split.1
 
 cut_before : (later : List ℕ) → IsCut later → (before_first (λ b. b == 10) later ≡ [])
-    ⊎ ((byte : ℕ) × (more : List ℕ) × (before_first (λ b. b == 10) later ≡ byte ∷ more) × (is_blank byte ≡ true))
+    ⊎ ((byte : ℕ) × (more : List ℕ) × (before_first (λ b. b == 10) later ≡ byte ∷ more)
+    × (is_blank byte ≡ true))
 unfolding IsCut
 cut_before [] h = inl refl
 cut_before (byte ∷ more) h = elim (one_of _ _ h) [
@@ -118,18 +136,21 @@ cut_before (byte ∷ more) h = elim (one_of _ _ h) [
 ]
 
 -- a run of bytes of a token before a cut is the first token
-pub BeginsWith-run : (token later : List ℕ) → list_all is_token_byte token ≡ true → 0 < length token → IsCut later → BeginsWith (token ++ later) token later
+pub BeginsWith-run : (token later : List ℕ) → list_all is_token_byte token ≡ true → 0 < length token
+    → IsCut later → BeginsWith (token ++ later) token later
 BeginsWith-run token later h some cut = record {
   first = ap tokens (before-run token later h) ∙ tokens-run token _ h some (cut_before later cut);
   same_lines = after-run token later h;
 }
 
 -- a line is the tokens before the line feed, and the other lines follow it
-pub lines_from-step : (max n : ℕ) (text : List ℕ) → lines_from max n (pieces text) ≡ put_line max n (first_tokens text) (lines_from max (n + 1) (pieces (after_line text)))
+pub lines_from-step : (max n : ℕ) (text : List ℕ) → lines_from max n (pieces text)
+    ≡ put_line max n (first_tokens text) (lines_from max (n + 1) (pieces (after_line text)))
 lines_from-step max n text =
     elim (eq-zero-or-pos (length text - position_or_len (λ b. b == 10) text)) [
       | inl none ↦
-          let all : All (λ b. (b == 10) ≡ false) text = λ k d lt. fails_before_first (λ b. b == 10) text k d (omega arith) in
+          let all : All (λ b. (b == 10) ≡ false) text = λ k d lt. fails_before_first (λ b. b == 10) text k d
+          (omega arith) in
           let whole : before_first (λ b. b == 10) text ≡ text = take_all _ text (omega arith) in
           let nothing : after_line text ≡ [] = drop_all _ text (omega arith) in
           ap (lines_from max n) (slice_split_none (λ b. b == 10) text all) ∙ rw (whole, nothing)

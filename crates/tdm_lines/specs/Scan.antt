@@ -33,7 +33,8 @@ pub record BeginsWith (text token later : List ℕ) : Type 0 where
   pub same_lines : after_line text ≡ after_line later
 
 -- the fault and the numbers are those of the tokens
-pub record IsReadOf (max : ℕ) (toks : List (List ℕ)) (fault : Option TokenFault) (numbers : List ℕ) : Type 0 where
+pub record IsReadOf (max : ℕ) (toks : List (List ℕ)) (fault : Option TokenFault)
+    (numbers : List ℕ) : Type 0 where
   pub fault_is : fault ≡ fault_of max toks
   pub numbers_are : numbers ≡ numbers_of max toks
 

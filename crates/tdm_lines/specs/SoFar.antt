@@ -16,14 +16,17 @@ abbrev pub token_there : List ℕ → List (List ℕ)
 token_there [] = []
 token_there (byte ∷ more) = (byte ∷ more) ∷ []
 
--- whatever comes, the text's lines are those that are done, then line n, which begins with these tokens, and the later ones
+-- whatever comes, the text's lines are those that are done, then line n, which begins with these tokens, and
+-- the later ones
 abbrev pub IsSoFar : ℕ → ℕ → List ℕ → List Line → List (List ℕ) → Type 0
 IsSoFar max n text done toks = (rest : List ℕ) → lines max (text ++ rest)
-    ≡ done ++ put_line max n (toks ++ first_tokens (unfinished text ++ rest)) (lines_from max (n + 1) (pieces (after_line (unfinished text ++ rest))))
+    ≡ done ++ put_line max n (toks ++ first_tokens (unfinished text ++ rest))
+    (lines_from max (n + 1) (pieces (after_line (unfinished text ++ rest))))
 
 -- the state is what the lines that are done made of it, and holds these tokens of the line in progress
 pub record Keeps {G : Type 0} (reads : G → List Line → Type 0) (holds : G → List ℕ → Type 0)
-    (max : ℕ) (fault : Option TokenFault) (count : ℕ) (state : G) (done : List Line) (toks : List (List ℕ)) : Type 0 where
+    (max : ℕ) (fault : Option TokenFault) (count : ℕ) (state : G) (done : List Line)
+    (toks : List (List ℕ)) : Type 0 where
   pub count_is : count ≡ length toks
   pub fault_is : fault ≡ fault_of max toks
   pub read : reads state done
@@ -31,7 +34,8 @@ pub record Keeps {G : Type 0} (reads : G → List Line → Type 0) (holds : G �
 
 -- the reading is at the end of this text
 pub record Stands {G : Type 0} (reads : G → List Line → Type 0) (holds : G → List ℕ → Type 0)
-    (scan : Scanned) (fed : ℕ) (fault : Option TokenFault) (count : ℕ) (state : G) (text : List ℕ) : Type 0 where
+    (scan : Scanned) (fed : ℕ) (fault : Option TokenFault) (count : ℕ) (state : G)
+    (text : List ℕ) : Type 0 where
   pub fed_is : fed ≡ length text
   pub scanned : StandsFor scan text
   pub done : List Line

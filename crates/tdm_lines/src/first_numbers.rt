@@ -5,8 +5,8 @@ ghost use Rattle.tdm_lines.specs.FirstNumbers.{AreFirst};
 use std::alloc::{AllocError, Global};
 use std::marker::Model;
 
-/// The first numbers of a line, so many and no more, however long the line is. Where a number is above the largest
-/// that it is told of, it keeps the largest in its place.
+/// The first numbers of a line, so many and no more, however long the line is. Where a number is above the
+/// largest that it is told of, it keeps the largest in its place.
 #[derive(Drop)]
 pub struct FirstNumbers {
     most: usize,

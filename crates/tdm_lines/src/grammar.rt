@@ -6,7 +6,8 @@ ghost use Rattle.tdm_lines.specs.SoFar.{ended_line};
 use crate::line::TokenFault;
 use std::alloc::AllocError;
 
-/// A text's grammar: what its lines, as they come, make of a state. Nothing is said of a state after an error.
+/// A text's grammar: what its lines, as they come, make of a state. Nothing is said of a state after an
+/// error.
 pub trait Grammar {
     // the largest number of the text
     ghost largest: { ℕ };
@@ -32,14 +33,16 @@ pub trait Grammar {
         ensures holds { OnOk result ((numbers : List ℕ) → place ≡ length numbers → holds self.old numbers
             → holds self.new (numbers ++ number ∷ [])) };
 
-    /// The line in progress ends, after so many tokens. Where it has a fault, nothing is known of its numbers.
+    /// The line in progress ends, after so many tokens. Where it has a fault, nothing is known of its
+    /// numbers.
     fn line(&mut self, line: u32, fault: Option<TokenFault>, count: u32) -> Result<(), AllocError>
         requires { fine self.old }
         ensures fine { OnOk result (fine self.new) }
         ensures sizes { OnOk result (sizes self.new ≡ sizes self.old) }
         ensures reads { OnOk result ((done : List Line) (numbers : List ℕ) → reads self.old done
             → 0 < count
-            → (fault ≡ None → (count ≡ length numbers) × holds self.old numbers × All (λ n. n ≤ largest) numbers)
+            → (fault ≡ None → (count ≡ length numbers) × holds self.old numbers
+            × All (λ n. n ≤ largest) numbers)
             → reads self.new (done ++ ended_line line fault numbers ∷ [])) }
         ensures holds { OnOk result (holds self.new []) };
 }

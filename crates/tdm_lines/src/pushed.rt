@@ -28,8 +28,8 @@ pub struct ScanStep {
     pub line_end: bool,
 }
 
-/// Where a text that comes byte by byte stands: in which line, and in which token, of which it keeps the number
-/// alone. It takes no memory.
+/// Where a text that comes byte by byte stands: in which line, and in which token, of which it keeps the
+/// number alone. It takes no memory.
 #[derive(Clone, Copy)]
 pub struct Scan {
     max: u64,
@@ -118,8 +118,8 @@ impl Scan {
         ScanStep { token, line_end }
     }
 
-    /// Takes the bytes of a token that stand from `at` on, where any do, and answers where they end. It is the same
-    /// as to push each of them.
+    /// Takes the bytes of a token that stand from `at` on, where any do, and answers where they end. It is
+    /// the same as to push each of them.
     #[inline]
     pub fn push_token(&mut self, bytes: &[u8], at: usize) -> usize
         requires { at ≤ length bytes.now }

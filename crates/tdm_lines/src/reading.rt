@@ -33,7 +33,8 @@ impl<G: Grammar + Drop> Reading<G> {
         ensures kept { result.spent ≡ false }
         ensures fed { result.fed ≡ 0 }
         ensures max { result.scan.max ≡ max }
-        ensures stands { G.reads grammar [] → G.holds grammar [] → Stands G.reads G.holds result.scan result.fed
+        ensures stands { G.reads grammar [] → G.holds grammar []
+            → Stands G.reads G.holds result.scan result.fed
             result.fault result.count result.grammar [] }
     {
         Reading {
@@ -65,7 +66,8 @@ impl<G: Grammar + Drop> Reading<G> {
         ensures keeps { OnOk result ((max : ℕ) (done : List Line) (toks : List (List ℕ)) (bytes : List ℕ)
             → token ≡ ending max bytes
             → Keeps G.reads G.holds max self.old.fault self.old.count self.old.grammar done toks
-            → Keeps G.reads G.holds max self.new.fault self.new.count self.new.grammar done (toks ++ token_there bytes)) }
+            → Keeps G.reads G.holds max self.new.fault self.new.count self.new.grammar done
+            (toks ++ token_there bytes)) }
     {
         match token {
             None => return Ok(()),
@@ -116,7 +118,8 @@ impl<G: Grammar + Drop> Reading<G> {
         ensures max { OnOk result (self.new.scan.max ≡ self.old.scan.max) }
         ensures sizes { OnOk result (G.sizes self.new.grammar ≡ G.sizes self.old.grammar) }
         ensures stands { OnOk result ((text : List ℕ) → self.old.scan.max ≤ G.largest
-            → Stands G.reads G.holds self.old.scan self.old.fed self.old.fault self.old.count self.old.grammar text
+            → Stands G.reads G.holds self.old.scan self.old.fed self.old.fault self.old.count self.old.grammar
+            text
             → Stands G.reads G.holds self.new.scan self.new.fed self.new.fault self.new.count self.new.grammar
             (text ++ byte ∷ [])) }
     {
@@ -143,7 +146,8 @@ impl<G: Grammar + Drop> Reading<G> {
         ensures max { self.new.scan.max ≡ self.old.scan.max }
         ensures grammar { self.new.grammar ≡ self.old.grammar }
         ensures stands { (text : List ℕ)
-            → Stands G.reads G.holds self.old.scan self.old.fed self.old.fault self.old.count self.old.grammar text
+            → Stands G.reads G.holds self.old.scan self.old.fed self.old.fault self.old.count self.old.grammar
+            text
             → Stands G.reads G.holds self.new.scan self.new.fed self.new.fault self.new.count self.new.grammar
             (text ++ slice_range piece.now at result) }
     {
@@ -161,7 +165,8 @@ impl<G: Grammar + Drop> Reading<G> {
         ensures max { OnOk result (self.new.scan.max ≡ self.old.scan.max) }
         ensures sizes { OnOk result (G.sizes self.new.grammar ≡ G.sizes self.old.grammar) }
         ensures stands { OnOk result ((text : List ℕ) → self.old.scan.max ≤ G.largest
-            → Stands G.reads G.holds self.old.scan self.old.fed self.old.fault self.old.count self.old.grammar text
+            → Stands G.reads G.holds self.old.scan self.old.fed self.old.fault self.old.count self.old.grammar
+            text
             → Stands G.reads G.holds self.new.scan self.new.fed self.new.fault self.new.count self.new.grammar
             (text ++ piece.now)) }
     {

@@ -7,7 +7,8 @@ use Rattle.tdm_problem.specs.Limits.{most_nets, most_groups, most_listed_fpgas, 
 use Rattle.tdm_problem.specs.Board.{Board, IsBoard, IsRowBelow}
 
 -- a row below a limit is below a larger one
-pub IsRowBelow-weaker : (low high : ℕ) → low ≤ high → (row : List ℕ) → IsRowBelow low row → IsRowBelow high row
+pub IsRowBelow-weaker : (low high : ℕ) → low ≤ high → (row : List ℕ) → IsRowBelow low row
+    → IsRowBelow high row
 IsRowBelow-weaker low high h row is = record {
   some = is.some;
   distinct = is.distinct;
@@ -15,7 +16,9 @@ IsRowBelow-weaker low high h row is = record {
 }
 
 -- a board with one net more is a board
-pub IsBoard-push_net : (board : Board) (net : List ℕ) → IsBoard board → length board.nets < most_nets → sum_by length board.nets + length net ≤ most_listed_fpgas → IsRowBelow board.fpgas net → IsBoard (record board { nets = board.nets ++ net ∷ [] })
+pub IsBoard-push_net : (board : Board) (net : List ℕ) → IsBoard board → length board.nets < most_nets
+    → sum_by length board.nets + length net ≤ most_listed_fpgas → IsRowBelow board.fpgas net
+    → IsBoard (record board { nets = board.nets ++ net ∷ [] })
 IsBoard-push_net board net is room room_listed row = record {
   fpga_limit = is.fpga_limit;
   wire_limit = is.wire_limit;
@@ -26,12 +29,15 @@ IsBoard-push_net board net is room room_listed row = record {
   wires = is.wires;
   nets = All-push (IsRowBelow board.fpgas) board.nets net is.nets row;
   groups = All-weaker (IsRowBelow (length board.nets)) (IsRowBelow (length (board.nets ++ net ∷ [])))
-      (IsRowBelow-weaker (length board.nets) (length (board.nets ++ net ∷ [])) (omega (arith, length_push board.nets net)))
+      (IsRowBelow-weaker (length board.nets) (length (board.nets ++ net ∷ []))
+      (omega (arith, length_push board.nets net)))
       board.groups is.groups;
 }
 
 -- a board with one group more is a board
-pub IsBoard-push_group : (board : Board) (group : List ℕ) → IsBoard board → length board.groups < most_groups → sum_by length board.groups + length group ≤ most_listed_nets → IsRowBelow (length board.nets) group → IsBoard (record board { groups = board.groups ++ group ∷ [] })
+pub IsBoard-push_group : (board : Board) (group : List ℕ) → IsBoard board → length board.groups < most_groups
+    → sum_by length board.groups + length group ≤ most_listed_nets → IsRowBelow (length board.nets) group
+    → IsBoard (record board { groups = board.groups ++ group ∷ [] })
 IsBoard-push_group board group is room room_listed row = record {
   fpga_limit = is.fpga_limit;
   wire_limit = is.wire_limit;
@@ -45,6 +51,7 @@ IsBoard-push_group board group is room room_listed row = record {
 }
 
 -- what holds before a step and after it holds whether the step was done or not
-pub holds_either_way : {X E : Type 0} (P : X → Type 0) (r : Result (Unit {0}) E) (old new done : X) → OnOk r (new ≡ done) → OnErr r (new ≡ old) → P old → P done → P new
+pub holds_either_way : {X E : Type 0} (P : X → Type 0) (r : Result (Unit {0}) E) (old new done : X)
+    → OnOk r (new ≡ done) → OnErr r (new ≡ old) → P old → P done → P new
 holds_either_way P (Ok u) old new done ok err before after = subst P (sym ok) after
 holds_either_way P (Err e) old new done ok err before after = subst P (sym err) before

@@ -30,21 +30,25 @@ max-even a b a_even b_even =
     (cases_lt a b)
 
 -- the largest of even numbers is even
-pub largest-even : {A : Type 0} (f : A → ℕ) (xs : List A) → ((x : A) → IsEven (f x)) → IsEven (largest (map f xs))
+pub largest-even : {A : Type 0} (f : A → ℕ) (xs : List A) → ((x : A) → IsEven (f x))
+    → IsEven (largest (map f xs))
 largest-even f [] even = (0, omega arith)
 largest-even f (x ∷ xs) even = max-even (f x) (largest (map f xs)) (even x) (largest-even f xs even)
 
 -- even ratios have an even sum
-net_sum-even : (routing : Routing) (n : ℕ) → All (λ uses. All IsEvenRatio (ratios_of uses)) routing → IsEven (net_sum routing n)
+net_sum-even : (routing : Routing) (n : ℕ) → All (λ uses. All IsEvenRatio (ratios_of uses)) routing
+    → IsEven (net_sum routing n)
 net_sum-even [] n even = (0, omega arith)
 net_sum-even (uses ∷ routing) zero even =
     sum_by-even (λ x. x) (ratios_of uses)
     (All-weaker IsEvenRatio IsEven (λ ratio is. (is.0, is.2)) (ratios_of uses)
     (All-head (λ us. All IsEvenRatio (ratios_of us)) uses routing even))
-net_sum-even (uses ∷ routing) (suc n) even = net_sum-even routing n (All-tail (λ us. All IsEvenRatio (ratios_of us)) uses routing even)
+net_sum-even (uses ∷ routing) (suc n) even =
+    net_sum-even routing n (All-tail (λ us. All IsEvenRatio (ratios_of us)) uses routing even)
 
 -- where each ratio is even, so is the value
-pub value_of-even : (board : Board) (routing : Routing) → All (λ uses. All IsEvenRatio (ratios_of uses)) routing → IsEven (value_of board routing)
+pub value_of-even : (board : Board) (routing : Routing)
+    → All (λ uses. All IsEvenRatio (ratios_of uses)) routing → IsEven (value_of board routing)
 value_of-even board routing even =
     largest-even (group_sum routing) board.groups
     (λ group. sum_by-even (net_sum routing) group (λ k d there. net_sum-even routing _ even))

@@ -21,15 +21,18 @@ first-apart : (x : ℕ) (xs : List ℕ) → AllPairs (λ a b. a ≢ b) (x ∷ xs
 first-apart x xs distinct k d there = distinct 0 (suc k) d (omega arith) (omega (arith, there))
 
 others-distinct : (x : ℕ) (xs : List ℕ) → AllPairs (λ a b. a ≢ b) (x ∷ xs) → AllPairs (λ a b. a ≢ b) xs
-others-distinct x xs distinct i j d before there = distinct (suc i) (suc j) d (omega (arith, before)) (omega (arith, there))
+others-distinct x xs distinct i j d before there = distinct (suc i) (suc j) d (omega (arith, before))
+    (omega (arith, there))
 
 -- of two tests that do not both hold
-either-part : (k : ℕ) (here later : Bool) → (here ≡ true → later ≡ false) → cond (here || later) k 0 ≡ cond here k 0 + cond later k 0
+either-part : (k : ℕ) (here later : Bool) → (here ≡ true → later ≡ false)
+    → cond (here || later) k 0 ≡ cond here k 0 + cond later k 0
 either-part k true later apart = rw (apart refl) (omega arith)
 either-part k false later apart = omega arith
 
 -- a sum over distinct numbers below a limit is a sum over the numbers below it, of those that are among them
-pub sum_by-row : (f : ℕ → ℕ) (limit : ℕ) (row : List ℕ) → AllPairs (λ a b. a ≢ b) row → All (λ x. x < limit) row →
+pub sum_by-row : (f : ℕ → ℕ) (limit : ℕ) (row : List ℕ) → AllPairs (λ a b. a ≢ b) row
+    → All (λ x. x < limit) row →
     sum_by f row ≡ sum_below limit (λ n. cond (list_any (λ m. m == n) row) (f n) 0)
 sum_by-row f limit [] distinct below = sym (sum_below-none limit (λ n. 0) (λ i small. refl))
 sum_by-row f limit (x ∷ row) distinct below =
@@ -53,20 +56,24 @@ weight-part true weight rest k = omega arith
 weight-part false weight rest k = omega arith
 
 -- the weighted sums of f over the groups are the sum over the nets of the net's weight times f
-pub weighted_by-nets : (f : ℕ → ℕ) (nets : ℕ) (groups : List (List ℕ)) (weights : List ℕ) → All (IsRowBelow nets) groups →
+pub weighted_by-nets : (f : ℕ → ℕ) (nets : ℕ) (groups : List (List ℕ)) (weights : List ℕ)
+    → All (IsRowBelow nets) groups →
     weighted_by (sum_by f) groups weights ≡ sum_below nets (λ n. net_weight groups weights n * f n)
 weighted_by-nets f nets [] weights rows = sym (sum_below-none nets (λ n. 0 * f n) (λ i small. omega arith))
-weighted_by-nets f nets (group ∷ groups) [] rows = sym (sum_below-none nets (λ n. 0 * f n) (λ i small. omega arith))
+weighted_by-nets f nets (group ∷ groups) [] rows =
+    sym (sum_below-none nets (λ n. 0 * f n) (λ i small. omega arith))
 weighted_by-nets f nets (group ∷ groups) (weight ∷ weights) rows =
     let row : IsRowBelow nets group = All-head (IsRowBelow nets) group groups rows in
-    let scaled : weight * sum_by f group ≡ weight * sum_below nets (λ n. cond (list_any (λ m. m == n) group) (f n) 0) =
+    let scaled : weight * sum_by f group
+    ≡ weight * sum_below nets (λ n. cond (list_any (λ m. m == n) group) (f n) 0) =
     ap (λ (x : ℕ). weight * x) (sum_by-row f nets group row.distinct row.below) in
     omega (
       arith,
       scaled,
       weighted_by-nets f nets groups weights (All-tail (IsRowBelow nets) group groups rows),
       sum_below-times nets weight (λ n. cond (list_any (λ m. m == n) group) (f n) 0),
-      sum_below-add nets (λ n. weight * cond (list_any (λ m. m == n) group) (f n) 0) (λ n. net_weight groups weights n * f n),
+      sum_below-add nets (λ n. weight * cond (list_any (λ m. m == n) group) (f n) 0)
+          (λ n. net_weight groups weights n * f n),
       sum_below-agree nets (λ n. net_weight (group ∷ groups) (weight ∷ weights) n * f n)
           (λ n. weight * cond (list_any (λ m. m == n) group) (f n) 0 + net_weight groups weights n * f n)
           (λ n small. weight-part (list_any (λ m. m == n) group) weight (net_weight groups weights n) (f n)),
@@ -75,12 +82,19 @@ weighted_by-nets f nets (group ∷ groups) (weight ∷ weights) rows =
 -- a common factor of a sum
 pub sum_by-times : {A : Type 0} (k : ℕ) (f : A → ℕ) (xs : List A) → sum_by (λ x. k * f x) xs ≡ k * sum_by f xs
 sum_by-times k f [] = omega arith
-sum_by-times k f (x ∷ xs) = omega (arith, sum_by-cons (λ y. k * f y) x xs, ap (λ (s : ℕ). k * s) (sum_by-cons f x xs), sum_by-times k f xs)
+sum_by-times k f (x ∷ xs) = omega (
+  arith,
+  sum_by-cons (λ y. k * f y) x xs,
+  ap (λ (s : ℕ). k * s) (sum_by-cons f x xs),
+  sum_by-times k f xs,
+)
 
 -- a net's weight times its sum, use by use
-weighted-net_sum : (k : ℕ) (routing : Routing) (n : ℕ) → k * net_sum routing n ≡ sum_by (λ (u : WireUse). k * u.ratio) (uses_of routing n)
+weighted-net_sum : (k : ℕ) (routing : Routing) (n : ℕ)
+    → k * net_sum routing n ≡ sum_by (λ (u : WireUse). k * u.ratio) (uses_of routing n)
 weighted-net_sum k routing n =
-    ap (λ (x : ℕ). k * x) (sum-map (λ (u : WireUse). u.ratio) (uses_of routing n)) ∙ sym (sum_by-times k (λ (u : WireUse). u.ratio) (uses_of routing n))
+    ap (λ (x : ℕ). k * x) (sum-map (λ (u : WireUse). u.ratio) (uses_of routing n))
+    ∙ sym (sum_by-times k (λ (u : WireUse). u.ratio) (uses_of routing n))
 
 -- the weighted sum of the group sums, wire by wire
 pub weighted_sums-by_wires : WireSumLaw
@@ -88,24 +102,30 @@ weighted_sums-by_wires board routing weights is is_for =
     let weight_of : ℕ → ℕ = net_weight board.groups weights in
     weighted_by-nets (net_sum routing) (length board.nets) board.groups weights is.groups
     ∙ ap (λ (nets : ℕ). sum_below nets (λ n. weight_of n * net_sum routing n)) (sym is_for.nets)
-    ∙ sum_below-agree (length routing) (λ n. weight_of n * net_sum routing n) (λ n. sum_by (λ (u : WireUse). weight_of n * u.ratio) (uses_of routing n))
+    ∙ sum_below-agree (length routing) (λ n. weight_of n * net_sum routing n)
+    (λ n. sum_by (λ (u : WireUse). weight_of n * u.ratio) (uses_of routing n))
     (λ n below. weighted-net_sum (weight_of n) routing n)
     ∙ uses-by_wires (λ n e ratio. weight_of n * ratio) board routing is_for
 
 -- one weight more
-weighted-step : (weight here rest sum_rest largest_rest : ℕ) → rest ≤ sum_rest * largest_rest → weight * here + rest ≤ (weight + sum_rest) * max here largest_rest
+weighted-step : (weight here rest sum_rest largest_rest : ℕ) → rest ≤ sum_rest * largest_rest
+    → weight * here + rest ≤ (weight + sum_rest) * max here largest_rest
 weighted-step weight here rest sum_rest largest_rest before =
-    let first : weight * here ≤ weight * max here largest_rest = mul-le-mul_left weight (le-max_left here largest_rest) in
-    let others : sum_rest * largest_rest ≤ sum_rest * max here largest_rest = mul-le-mul_left sum_rest (le-max_right here largest_rest) in
+    let first : weight * here ≤ weight * max here largest_rest =
+    mul-le-mul_left weight (le-max_left here largest_rest) in
+    let others : sum_rest * largest_rest ≤ sum_rest * max here largest_rest =
+    mul-le-mul_left sum_rest (le-max_right here largest_rest) in
     omega (arith, before, first, others)
 
 -- weighted numbers of the groups sum to at most the sum of the weights times the largest of them
-pub weighted_by-le_largest : (f : List ℕ → ℕ) (groups : List (List ℕ)) (weights : List ℕ) → weighted_by f groups weights ≤ sum weights * largest (map f groups)
+pub weighted_by-le_largest : (f : List ℕ → ℕ) (groups : List (List ℕ)) (weights : List ℕ)
+    → weighted_by f groups weights ≤ sum weights * largest (map f groups)
 weighted_by-le_largest f [] weights = omega arith
 weighted_by-le_largest f (group ∷ groups) [] = omega arith
 weighted_by-le_largest f (group ∷ groups) (weight ∷ weights) =
     rw (sum_by-cons (λ x. x) weight weights)
-    (weighted-step weight (f group) (weighted_by f groups weights) (sum weights) (largest (map f groups)) (weighted_by-le_largest f groups weights))
+    (weighted-step weight (f group) (weighted_by f groups weights) (sum weights) (largest (map f groups))
+    (weighted_by-le_largest f groups weights))
 
 -- the weighted sum of the group sums is at most the sum of the weights times the value
 pub weighted_sums-le_value : ValueLaw

@@ -7,7 +7,8 @@ use Rattle.std.proofs.lemmas.List.Folds.{Any-from_list_any}
 use Rattle.std.proofs.lemmas.Map.Steps.{length-le_from_distinct_below}
 use Rattle.std.proofs.lemmas.Map.Made.{IsDistinct-from_AllPairs}
 
-pub distinct_few : (xs : List ℕ) (limit : ℕ) → AllPairs (λ x y. x ≢ y) xs → All (λ x. x < limit) xs → length xs ≤ limit
+pub distinct_few : (xs : List ℕ) (limit : ℕ) → AllPairs (λ x y. x ≢ y) xs → All (λ x. x < limit) xs
+    → length xs ≤ limit
 distinct_few xs limit distinct below =
     length-le_from_distinct_below xs limit (IsDistinct-from_AllPairs {eq = eqb} unsigned_Decides xs distinct)
     (λ q found. here q (Any-from_list_any (λ y. eqb q y) xs found))

@@ -13,23 +13,32 @@ use Rattle.tdm_problem.proofs.Exchanges.{sum_by-row}
 use Rattle.tdm_problem.proofs.SumsBelow.{sum_below-add, sum_below-agree}
 
 -- two functions that differ at one number alone
-pub sum_below-differ : (n k d : ℕ) (f g : ℕ → ℕ) → k < n → ((i : ℕ) → i < n → i ≢ k → f i ≡ g i) → f k ≡ g k + d → sum_below n f ≡ sum_below n g + d
+pub sum_below-differ : (n k d : ℕ) (f g : ℕ → ℕ) → k < n → ((i : ℕ) → i < n → i ≢ k → f i ≡ g i)
+    → f k ≡ g k + d → sum_below n f ≡ sum_below n g + d
 sum_below-differ zero k d f g below agree here = absurd (omega arith)
 sum_below-differ (suc n) k d f g below agree here =
     ⊎_elim
     (λ (last : n ≡ k).
     let before : sum_below n f ≡ sum_below n g =
-    sum_below-agree n f g (λ i small. agree i (omega (arith, small)) (λ (e : i ≡ k). omega (arith, e, small, last))) in
+    sum_below-agree n f g (λ i small. agree i (omega (arith, small)) (λ (e : i ≡ k). omega (
+      arith,
+      e,
+      small,
+      last,
+    ))) in
     let same : f n ≡ g n + d = subst (λ (m : ℕ). f m ≡ g m + d) (sym last) here in
     omega (arith, before, same))
     (λ (other : n ≢ k).
     let before : sum_below n f ≡ sum_below n g + d =
-    sum_below-differ n k d f g (omega (arith, below, other)) (λ i small apart. agree i (omega (arith, small)) apart) here in
+    sum_below-differ n k d f g (omega (arith, below, other))
+    (λ i small apart. agree i (omega (arith, small)) apart) here in
     omega (arith, before, agree n (omega arith) other))
     (cases_eq n k)
 
 -- a net adds its own load to what the others load
-pub load_of-moved : (trees : List (List ℕ)) (numbers : List ℕ) (n : ℕ) (wires : List ℕ) (e : ℕ) → n < length trees → load_of (slice_set trees n wires) numbers e ≡ load_of (without_net trees n) numbers e + load_by (slice_index numbers n) wires e
+pub load_of-moved : (trees : List (List ℕ)) (numbers : List ℕ) (n : ℕ) (wires : List ℕ) (e : ℕ)
+    → n < length trees → load_of (slice_set trees n wires) numbers e ≡ load_of (without_net trees n) numbers e
+    + load_by (slice_index numbers n) wires e
 load_of-moved trees numbers n wires e there =
     rw (length-set trees n wires, length-set trees n [])
     (sum_below-differ (length trees) n (load_by (slice_index numbers n) wires e)
@@ -39,7 +48,8 @@ load_of-moved trees numbers n wires e there =
     (λ m below other.
     ap (λ (tree : List ℕ). load_by (slice_index numbers m) tree e)
     (get_or-set_other trees n m wires [] other ∙ sym (get_or-set_other trees n m [] [] other)))
-    (rw (get_or-set_same trees n wires [] there, get_or-set_same trees n [] [] there) (sym (zero-add (load_by (slice_index numbers n) wires e)))))
+    (rw (get_or-set_same trees n wires [] there, get_or-set_same trees n [] [] there)
+    (sym (zero-add (load_by (slice_index numbers n) wires e)))))
 
 -- the square of a load with one more net
 squared : (b : Bool) (y s : ℕ) → (y + cond b s 0) * (y + cond b s 0) ≡ y * y + cond b (s * (2 * y + s)) 0
@@ -63,20 +73,31 @@ load_cost-moved board trees numbers n wires there are =
     sum_below-agree (length board.wires)
     (λ e. load_of (slice_set trees n wires) numbers e * load_of (slice_set trees n wires) numbers e)
     (λ e. y e * y e + part e)
-    (λ e below. ap (λ (x : ℕ). x * x) (load_of-moved trees numbers n wires e there) ∙ squared (list_any (λ d. d == e) wires) (y e) s)
+    (λ e below. ap (λ (x : ℕ). x * x) (load_of-moved trees numbers n wires e there)
+    ∙ squared (list_any (λ d. d == e) wires) (y e) s)
     ∙ sum_below-add (length board.wires) (λ e. y e * y e) part
     ∙ ap (λ (x : ℕ). load_cost board (without_net trees n) numbers + x)
-    (sym (sum_by-row long (length board.wires) wires are.distinct are.there) ∙ sum_by-times s (marginal_length trees numbers n) wires)
+    (sym (sum_by-row long (length board.wires) wires are.distinct are.there)
+    ∙ sum_by-times s (marginal_length trees numbers n) wires)
 
 pub load_cost-exchanged : MovedLaw
 load_cost-exchanged board trees numbers n wires there old new =
     let same : slice_set trees n (tree_of trees n) ≡ trees = set-get_or trees n [] in
-    let before : load_cost board trees numbers ≡ load_cost board (without_net trees n) numbers + slice_index numbers n * length_of (marginal_length trees numbers n) (tree_of trees n) =
-    subst (λ (ts : List (List ℕ)). load_cost board ts numbers ≡ load_cost board (without_net trees n) numbers + slice_index numbers n * length_of (marginal_length trees numbers n) (tree_of trees n)) same
+    let before : load_cost board trees numbers ≡ load_cost board (without_net trees n) numbers
+    + slice_index numbers n * length_of (marginal_length trees numbers n) (tree_of trees n) =
+    subst (λ (ts : List (List ℕ)). load_cost board ts numbers ≡ load_cost board (without_net trees n) numbers
+    + slice_index numbers n * length_of (marginal_length trees numbers n) (tree_of trees n)) same
     (load_cost-moved board trees numbers n (tree_of trees n) there old) in
-    let after : load_cost board (slice_set trees n wires) numbers ≡ load_cost board (without_net trees n) numbers + slice_index numbers n * length_of (marginal_length trees numbers n) wires =
+    let after : load_cost board (slice_set trees n wires) numbers
+    ≡ load_cost board (without_net trees n) numbers + slice_index numbers n * length_of
+    (marginal_length trees numbers n) wires =
     load_cost-moved board trees numbers n wires there new in
-    let swap : (a b c x y : ℕ) → a ≡ b + x → c ≡ b + y → a + y ≡ c + x = λ a b c x y e f. omega (arith, e, f) in
-    swap (load_cost board (slice_set trees n wires) numbers) (load_cost board (without_net trees n) numbers) (load_cost board trees numbers)
+    let swap : (a b c x y : ℕ) → a ≡ b + x → c ≡ b + y → a + y ≡ c + x = λ a b c x y e f. omega (
+      arith,
+      e,
+      f,
+    ) in
+    swap (load_cost board (slice_set trees n wires) numbers) (load_cost board (without_net trees n) numbers)
+    (load_cost board trees numbers)
     (slice_index numbers n * length_of (marginal_length trees numbers n) wires)
     (slice_index numbers n * length_of (marginal_length trees numbers n) (tree_of trees n)) after before

@@ -29,14 +29,23 @@ root_of-next n = (root n).1
 not-above : (n r s : ℕ) → r * r ≤ n → n < (s + 1) * (s + 1) → r ≤ s
 not-above n r s square next =
     ⊎_elim
-    (λ (below : s < r). absurd (omega (arith, square, next, mul-le (s + 1) (s + 1) r r (omega (arith, below)) (omega (arith, below)))))
+    (λ (below : s < r). absurd (omega (
+      arith,
+      square,
+      next,
+      mul-le (s + 1) (s + 1) r r (omega (arith, below)) (omega (arith, below)),
+    )))
     (λ (fine : r ≤ s). fine)
     (cases_lt s r)
 
 -- the root is the one number with these two bounds
 pub root_of-is : (n r : ℕ) → r * r ≤ n → n < (r + 1) * (r + 1) → r ≡ root_of n
 root_of-is n r square next =
-    omega (arith, not-above n r (root_of n) square (root_of-next n), not-above n (root_of n) r (root_of-square n) next)
+    omega (
+      arith,
+      not-above n r (root_of n) square (root_of-next n),
+      not-above n (root_of n) r (root_of-square n) next,
+    )
 
 -- the root is that number, and no other
 pub root_of-exact : RootLaw

@@ -43,8 +43,13 @@ sum_below-one (suc n) k f below =
     ⊎_elim
     (λ (is : k ≡ n).
     let before : sum_below n (λ i. cond (k == i) (f i) 0) ≡ 0 =
-    sum_below-none n (λ i. cond (k == i) (f i) 0) (λ i small. cond-false (k == i) (f i) 0 (ne_eqb k i (λ e. omega (arith, e, small, is)))) in
+    sum_below-none n (λ i. cond (k == i) (f i) 0)
+    (λ i small. cond-false (k == i) (f i) 0 (ne_eqb k i (λ e. omega (arith, e, small, is)))) in
     omega (arith, before, cond-true (k == n) (f n) 0 (eq-eqb k n is), ap f is))
     (λ (other : k ≡ n → ⊥).
-    omega (arith, sum_below-one n k f (omega (arith, below, other)), cond-false (k == n) (f n) 0 (ne_eqb k n other)))
+    omega (
+      arith,
+      sum_below-one n k f (omega (arith, below, other)),
+      cond-false (k == n) (f n) 0 (ne_eqb k n other),
+    ))
     (cases_eq k n)

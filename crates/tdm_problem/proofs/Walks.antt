@@ -25,44 +25,53 @@ pub AnyWire-from_links : (board : Board) (e a b : ℕ) → Links board e a b →
 AnyWire-from_links board e a b links = there-from_get board.wires e links.wire links.is
 
 -- every walk is a walk in a larger set
-pub IsWalk-wider : (board : Board) (some more : ℕ → Type 0) → ((e : ℕ) → some e → more e) → (a : ℕ) (es : List ℕ) (b : ℕ) → IsWalk board some a es b → IsWalk board more a es b
+pub IsWalk-wider : (board : Board) (some more : ℕ → Type 0) → ((e : ℕ) → some e → more e)
+    → (a : ℕ) (es : List ℕ) (b : ℕ) → IsWalk board some a es b → IsWalk board more a es b
 IsWalk-wider board some more wider a [] b walk = walk
 IsWalk-wider board some more wider a (e ∷ es) b walk =
     (wider e walk.0, (walk.1.0, walk.1.1, IsWalk-wider board some more wider walk.1.0 es b walk.1.2))
 
 -- one walk after another
-pub IsWalk-append : (board : Board) (wires : ℕ → Type 0) (a : ℕ) (es : List ℕ) (b : ℕ) (fs : List ℕ) (c : ℕ) → IsWalk board wires a es b → IsWalk board wires b fs c → IsWalk board wires a (es ++ fs) c
-IsWalk-append board wires a [] b fs c first second = subst (λ (x : ℕ). IsWalk board wires x fs c) (sym first) second
+pub IsWalk-append : (board : Board) (wires : ℕ → Type 0) (a : ℕ) (es : List ℕ) (b : ℕ) (fs : List ℕ) (c : ℕ)
+    → IsWalk board wires a es b → IsWalk board wires b fs c → IsWalk board wires a (es ++ fs) c
+IsWalk-append board wires a [] b fs c first second =
+    subst (λ (x : ℕ). IsWalk board wires x fs c) (sym first) second
 IsWalk-append board wires a (e ∷ es) b fs c first second =
     (first.0, (first.1.0, first.1.1, IsWalk-append board wires first.1.0 es b fs c first.1.2 second))
 
 -- a walk of one wire
-pub IsWalk-one : (board : Board) (wires : ℕ → Type 0) (e a b : ℕ) → wires e → Links board e a b → IsWalk board wires a (e ∷ []) b
+pub IsWalk-one : (board : Board) (wires : ℕ → Type 0) (e a b : ℕ) → wires e → Links board e a b
+    → IsWalk board wires a (e ∷ []) b
 IsWalk-one board wires e a b there links = (there, (b, links, refl))
 
 -- a walk back
-pub IsWalk-reverse : (board : Board) (wires : ℕ → Type 0) (a : ℕ) (es : List ℕ) (b : ℕ) → IsWalk board wires a es b → IsWalk board wires b (reverse es) a
+pub IsWalk-reverse : (board : Board) (wires : ℕ → Type 0) (a : ℕ) (es : List ℕ) (b : ℕ)
+    → IsWalk board wires a es b → IsWalk board wires b (reverse es) a
 IsWalk-reverse board wires a [] b walk = sym walk
 IsWalk-reverse board wires a (e ∷ es) b walk =
     let x : ℕ = walk.1.0 in
-    let back : IsWalk board wires x (e ∷ []) a = IsWalk-one board wires e x a walk.0 (Links-sym board e a x walk.1.1) in
+    let back : IsWalk board wires x (e ∷ []) a =
+    IsWalk-one board wires e x a walk.0 (Links-sym board e a x walk.1.1) in
     let whole : IsWalk board wires b (reverse es ++ e ∷ []) a =
     IsWalk-append board wires b (reverse es) x (e ∷ []) a (IsWalk-reverse board wires x es b walk.1.2) back in
     subst (λ (fs : List ℕ). IsWalk board wires b fs a) (sym (reverse-append (e ∷ []) es)) whole
 
 -- a larger set joins what a smaller one joins
-pub Joins-wider : (board : Board) (some more : ℕ → Type 0) → ((e : ℕ) → some e → more e) → (fpgas : List ℕ) → Joins board some fpgas → Joins board more fpgas
+pub Joins-wider : (board : Board) (some more : ℕ → Type 0) → ((e : ℕ) → some e → more e) → (fpgas : List ℕ)
+    → Joins board some fpgas → Joins board more fpgas
 Joins-wider board some more wider fpgas joins a b there_a there_b =
     let walk = joins a b there_a there_b in
     (walk.0, IsWalk-wider board some more wider a walk.0 b walk.1)
 
 -- walks from one FPGA to all join them
-pub Joins-from_source : (board : Board) (wires : ℕ → Type 0) (source : ℕ) (fpgas : List ℕ) → ((b : ℕ) → Contains fpgas b → (es : List ℕ) × IsWalk board wires source es b) → Joins board wires fpgas
+pub Joins-from_source : (board : Board) (wires : ℕ → Type 0) (source : ℕ) (fpgas : List ℕ)
+    → ((b : ℕ) → Contains fpgas b → (es : List ℕ) × IsWalk board wires source es b) → Joins board wires fpgas
 Joins-from_source board wires source fpgas walks a b there_a there_b =
     let first = walks a there_a in
     let second = walks b there_b in (
       reverse first.0 ++ second.0,
-      IsWalk-append board wires a (reverse first.0) source second.0 b (IsWalk-reverse board wires source first.0 a first.1) second.1,
+      IsWalk-append board wires a (reverse first.0) source second.0 b
+          (IsWalk-reverse board wires source first.0 a first.1) second.1,
     )
 
 -- the only element of a list of one
@@ -88,12 +97,14 @@ IsMinimalTree-none board fpga = record {
 }
 
 -- a walk without wires stays where it is
-walk-nowhere : (board : Board) (wires : ℕ → Type 0) → ((e : ℕ) → wires e → ⊥) → (a : ℕ) (es : List ℕ) (b : ℕ) → IsWalk board wires a es b → a ≡ b
+walk-nowhere : (board : Board) (wires : ℕ → Type 0) → ((e : ℕ) → wires e → ⊥) → (a : ℕ) (es : List ℕ) (b : ℕ)
+    → IsWalk board wires a es b → a ≡ b
 walk-nowhere board wires empty a [] b walk = walk
 walk-nowhere board wires empty a (e ∷ es) b walk = absurd (empty e walk.0)
 
 -- a wire that links two FPGAs is a minimal tree of these
-pub IsMinimalTree-one : (board : Board) (e a b : ℕ) → Links board e a b → a ≢ b → IsMinimalTree board (e ∷ []) (a ∷ b ∷ [])
+pub IsMinimalTree-one : (board : Board) (e a b : ℕ) → Links board e a b → a ≢ b
+    → IsMinimalTree board (e ∷ []) (a ∷ b ∷ [])
 IsMinimalTree-one board e a b links differ = record {
   joins = Joins-from_source board (Contains (e ∷ [])) a (a ∷ b ∷ [])
       (λ c there.
@@ -104,15 +115,18 @@ IsMinimalTree-one board e a b links differ = record {
   needs = λ d there joins.
       let walk = joins a b (0, omega arith, refl) (1, omega arith, refl) in
       differ
-      (walk-nowhere board (λ f. Contains (e ∷ []) f × (f ≢ d)) (λ f inside. inside.1 (sym (only e f inside.0) ∙ only e d there)) a walk.0 b walk.1);
+      (walk-nowhere board (λ f. Contains (e ∷ []) f × (f ≢ d)) (λ f inside. inside.1 (sym (only e f inside.0)
+      ∙ only e d there)) a walk.0 b walk.1);
 }
 
 -- a wire that is read links its ends
-pub Links-ends : (board : Board) (e : ℕ) (wire : Wire) → slice_get board.wires e ≡ Some wire → Links board e wire.a wire.b
+pub Links-ends : (board : Board) (e : ℕ) (wire : Wire) → slice_get board.wires e ≡ Some wire
+    → Links board e wire.a wire.b
 Links-ends board e wire is = record { wire = wire; is = is; ends = inl (refl, refl) }
 
 -- what a place in a list gives has what all have
-holds-from_get : {X : Type 0} (P : X → Type 0) (xs : List X) (i : ℕ) (x : X) → All P xs → slice_get xs i ≡ Some x → P x
+holds-from_get : {X : Type 0} (P : X → Type 0) (xs : List X) (i : ℕ) (x : X) → All P xs
+    → slice_get xs i ≡ Some x → P x
 holds-from_get P [] i x all is = absurd (cc is)
 holds-from_get P (y ∷ xs) zero x all is =
     let same : y ≡ x = cc is in
@@ -120,9 +134,11 @@ holds-from_get P (y ∷ xs) zero x all is =
 holds-from_get P (y ∷ xs) (suc i) x all is = holds-from_get P xs i x (All-tail P y xs all) is
 
 -- a wire of the board joins two different FPGAs of it
-pub IsWireOf-from_links : (board : Board) (e a b : ℕ) → IsBoard board → Links board e a b → (a < board.fpgas) × (b < board.fpgas) × (a ≢ b)
+pub IsWireOf-from_links : (board : Board) (e a b : ℕ) → IsBoard board → Links board e a b → (a < board.fpgas)
+    × (b < board.fpgas) × (a ≢ b)
 IsWireOf-from_links board e a b is links =
-    let wire : IsWireOf board.fpgas links.wire = holds-from_get (IsWireOf board.fpgas) board.wires e links.wire is.wires links.is in
+    let wire : IsWireOf board.fpgas links.wire =
+    holds-from_get (IsWireOf board.fpgas) board.wires e links.wire is.wires links.is in
     ⊎_elim
     (λ forth. (
       omega (arith, wire.a_there, forth.0),

@@ -2,7 +2,8 @@ use Rattle.std.specs.Prelude.{◌≢◌, ℕ, ◌<◌, ◌≤◌, not, ◌==◌,
 use Rattle.tdm_problem.specs.declared.wire.Wire.{Wire}
 use Rattle.tdm_problem.specs.Limits.{most_fpgas, most_wires, most_nets, most_groups, most_listed_fpgas, most_listed_nets}
 
--- a board: how many FPGAs it has, its wires, the FPGAs of each net with the source first, and the nets of each group
+-- a board: how many FPGAs it has, its wires, the FPGAs of each net with the source first, and the nets of
+-- each group
 pub record Board : Type 0 where
   pub fpgas : ℕ
   pub wires : List Wire

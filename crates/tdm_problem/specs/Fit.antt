@@ -10,7 +10,8 @@ abbrev pub reciprocals : List ℕ → ℕ
 reciprocals [] = 0
 reciprocals (r ∷ rs) = product rs + r * reciprocals rs
 
--- the reciprocals of the ratios sum to at most the number of lanes; this is meant for ratios above 0, as those of a
+-- the reciprocals of the ratios sum to at most the number of lanes; this is meant for ratios above 0, as
+-- those of a
 -- legal solution are
 abbrev pub FitsLanes : List ℕ → ℕ → Type 0
 FitsLanes ratios lanes = reciprocals ratios ≤ lanes * product ratios

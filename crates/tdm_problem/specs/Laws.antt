@@ -20,14 +20,16 @@ pub record IsPriced (item : Priced) : Type 0 where
   pub positive : 0 < item.ratio
   pub square_at_most : item.root * item.root ≤ item.price
 
--- where the ratios fit, the prices times the ratios sum to at least 2 · l · (the sum of the roots) - lanes · l², at any l
+-- where the ratios fit, the prices times the ratios sum to at least 2 · l · (the sum of the roots) - lanes ·
+-- l², at any l
 abbrev pub TangentLaw : Type 0
 TangentLaw = (items : List Priced) (lanes l : ℕ) → All IsPriced items
     → FitsLanes (map (λ item. item.ratio) items) lanes
     → 2 * l * sum_by (λ item. item.root) items
     ≤ sum_by (λ item. item.price * item.ratio) items + lanes * (l * l)
 
--- the weighted sum of the group sums is, over the wires and the nets on each, the sum of the net's weight times its ratio
+-- the weighted sum of the group sums is, over the wires and the nets on each, the sum of the net's weight
+-- times its ratio
 abbrev pub WireSumLaw : Type 0
 WireSumLaw = (board : Board) (routing : Routing) (weights : List ℕ) → IsBoard board → IsFor board routing →
     weighted_sums routing board.groups weights

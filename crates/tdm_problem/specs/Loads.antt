@@ -33,7 +33,8 @@ pub record AreWiresOf (board : Board) (wires : List ℕ) : Type 0 where
   pub there : All (λ e. e < length board.wires) wires
   pub distinct : AllPairs (λ d e. d ≢ e) wires
 
--- a net that gets these wires in place of its tree costs its number times their marginal length, beside the others
+-- a net that gets these wires in place of its tree costs its number times their marginal length, beside the
+-- others
 abbrev pub CostLaw : Type 0
 CostLaw = (board : Board) (trees : List (List ℕ)) (numbers : List ℕ) (n : ℕ) (wires : List ℕ)
     → n < length trees → AreWiresOf board wires
@@ -41,7 +42,8 @@ CostLaw = (board : Board) (trees : List (List ℕ)) (numbers : List ℕ) (n : �
     ≡ load_cost board (without_net trees n) numbers
     + slice_index numbers n * length_of (marginal_length trees numbers n) wires
 
--- so the cost changes by the net's number times the difference between the marginal lengths of its old and new wires
+-- so the cost changes by the net's number times the difference between the marginal lengths of its old and
+-- new wires
 abbrev pub MovedLaw : Type 0
 MovedLaw = (board : Board) (trees : List (List ℕ)) (numbers : List ℕ) (n : ℕ) (wires : List ℕ)
     → n < length trees → AreWiresOf board (tree_of trees n) → AreWiresOf board wires

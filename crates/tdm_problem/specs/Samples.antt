@@ -63,7 +63,8 @@ abbrev pub on_wire_0 : List ℕ → Routing
 on_wire_0 [] = []
 on_wire_0 (ratio ∷ ratios) = (use_at 0 ratio ∷ []) ∷ on_wire_0 ratios
 
--- three FPGAs in a ring: two short wires, of length 1, and a long one, of length 5, that lead both from 0 to 2
+-- three FPGAs in a ring: two short wires, of length 1, and a long one, of length 5, that lead both from 0 to
+-- 2
 abbrev pub ring : Board
 ring = record {
   fpgas = 3;

@@ -15,9 +15,11 @@ ratio_at routing n place = slice_index (ratios_of (uses_of routing n)) place
 -- with that ratio lowered by 2 the ratios on the wire fit no more
 abbrev pub IsTightAt : Board → Routing → (n place : ℕ) → Type 0
 IsTightAt board routing n place = 2 < ratio_at routing n place
-    → ¬ FitsLanes (ratios_on (with_ratio routing n place (ratio_at routing n place - 2)) (wire_at routing n place))
+    → ¬ FitsLanes (ratios_on (with_ratio routing n place (ratio_at routing n place - 2))
+    (wire_at routing n place))
     (lanes_of board (wire_at routing n place))
 
 -- no ratio above 2 can be lowered by 2
 abbrev pub IsTight : Board → Routing → Type 0
-IsTight board routing = (n place : ℕ) → n < length routing → place < length (uses_of routing n) → IsTightAt board routing n place
+IsTight board routing = (n place : ℕ) → n < length routing → place < length (uses_of routing n)
+    → IsTightAt board routing n place

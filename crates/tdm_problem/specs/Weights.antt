@@ -3,7 +3,8 @@ use Rattle.std.specs.List.{list_any}
 use Rattle.tdm_problem.specs.Routing.{Routing}
 use Rattle.tdm_problem.specs.Value.{group_sum}
 
--- the weight of net n: the sum of the weights of the groups that hold it, where a group past the last weight weighs nothing
+-- the weight of net n: the sum of the weights of the groups that hold it, where a group past the last weight
+-- weighs nothing
 abbrev pub net_weight : (groups : List (List ℕ)) → (weights : List ℕ) → (n : ℕ) → ℕ
 net_weight [] weights n = 0
 net_weight (group ∷ groups) [] n = 0

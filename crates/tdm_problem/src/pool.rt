@@ -116,7 +116,8 @@ fn row_of(items: &[u32], spot: Spot) -> &[u32]
 /// Writes a row over the items from a place on.
 fn write_row(items: &mut [u32], place: usize, row: &[u32])
     requires { place + length row.now ≤ length items.old }
-    ensures written { items.new ≡ take place items.old ++ (row.now ++ drop (place + length row.now) items.old) }
+    ensures written { items.new ≡ take place items.old
+        ++ (row.now ++ drop (place + length row.now) items.old) }
     ensures size { length items.new ≡ length items.old }
 {
     items[place..place + row.len()].copy_from_slice(row);

@@ -26,7 +26,12 @@ impl Model for Problem {
 
     ghost view = { λ p. record { fpgas = p.fpgas; wires = p.wires.items; nets = p.nets; groups = p.groups } };
 
-    ghost invariant = { λ p. IsBoard (record { fpgas = p.fpgas; wires = p.wires.items; nets = p.nets; groups = p.groups }) };
+    ghost invariant = { λ p. IsBoard (record {
+      fpgas = p.fpgas;
+      wires = p.wires.items;
+      nets = p.nets;
+      groups = p.groups;
+    }) };
 }
 
 impl Problem {

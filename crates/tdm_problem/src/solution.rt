@@ -59,7 +59,8 @@ impl Solution {
         self.uses.row(n as usize)
     }
 
-    /// Adds the uses of the next net, their wires rising strictly. The solution is unchanged where memory is wanting.
+    /// Adds the uses of the next net, their wires rising strictly. The solution is unchanged where memory is
+    /// wanting.
     pub fn push_net(&mut self, uses: &[WireUse]) -> Result<(), AllocError>
         requires room { length self.old < most_nets }
         requires rising { IsStrictlyIncreasing (wires_of uses.now) }

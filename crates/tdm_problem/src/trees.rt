@@ -8,8 +8,8 @@ use crate::pool::Pool;
 use std::alloc::{AllocError, Global};
 use std::marker::Model;
 
-/// Net by net the wires that it uses, at most [`MAX_NETS`] nets. The wires of a net rise strictly. A net may get
-/// other wires at any time.
+/// Net by net the wires that it uses, at most [`MAX_NETS`] nets. The wires of a net rise strictly. A net may
+/// get other wires at any time.
 #[derive(Drop)]
 pub struct Trees {
     wires: Pool,

@@ -16,7 +16,8 @@ abbrev pub numbers_then : ℕ → List ℕ → Bytes
 numbers_then end numbers = flat_map (λ number. number_then number end) numbers
 
 -- of the text a front was written, and the rest is pending
-pub record IsUnderWay (slot : OutSlot) (text : Bytes) (before : Seen) (pending : Bytes) (after : Seen) : Type 0 where
+pub record IsUnderWay (slot : OutSlot) (text : Bytes) (before : Seen) (pending : Bytes)
+    (after : Seen) : Type 0 where
   pub front : Bytes
   pub whole : front ++ pending ≡ text
   pub is : after ≡ written slot front before

@@ -58,7 +58,8 @@ fn put<D: Desk>(
 
 /// Adds a number to the text, and the byte behind it.
 ///
-/// After a fault a prefix of what was pending and of these was written, nothing is pending, and the slot stays open.
+/// After a fault a prefix of what was pending and of these was written, nothing is pending, and the slot
+/// stays open.
 pub fn put_number<D: Desk>(
     desk: &mut D,
     slot: OutSlot,
@@ -84,7 +85,8 @@ pub fn put_number<D: Desk>(
 
 /// Adds each number to the text, and behind each the same byte.
 ///
-/// After a fault a prefix of what was pending and of these was written, nothing is pending, and the slot stays open.
+/// After a fault a prefix of what was pending and of these was written, nothing is pending, and the slot
+/// stays open.
 pub fn put_numbers<D: Desk>(
     desk: &mut D,
     slot: OutSlot,
@@ -111,7 +113,8 @@ pub fn put_numbers<D: Desk>(
 
 /// Adds a line to the text, of one number or more, with single spaces between them.
 ///
-/// After a fault a prefix of what was pending and of the line was written, nothing is pending, and the slot stays open.
+/// After a fault a prefix of what was pending and of the line was written, nothing is pending, and the slot
+/// stays open.
 pub fn put_line<D: Desk>(
     desk: &mut D,
     slot: OutSlot,

@@ -23,9 +23,11 @@ higher_sum : (xs ys : List ℕ) → AtMost xs ys → reciprocals ys * product xs
 higher_sum [] [] h = omega arith
 higher_sum [] (y ∷ ys) h = absurd h
 higher_sum (x ∷ xs) [] h = absurd h
-higher_sum (x ∷ xs) (y ∷ ys) h = one_more x y (product xs) (reciprocals xs) (product ys) (reciprocals ys) h.0 (higher_sum xs ys h.1)
+higher_sum (x ∷ xs) (y ∷ ys) h = one_more x y (product xs) (reciprocals xs) (product ys) (reciprocals ys) h.0
+    (higher_sum xs ys h.1)
 
-pub FitsLanes-raised : (xs ys : List ℕ) (lanes : ℕ) → All (λ x. 0 < x) xs → AtMost xs ys → FitsLanes xs lanes → FitsLanes ys lanes
+pub FitsLanes-raised : (xs ys : List ℕ) (lanes : ℕ) → All (λ x. 0 < x) xs → AtMost xs ys → FitsLanes xs lanes
+    → FitsLanes ys lanes
 FitsLanes-raised xs ys lanes positive below fits =
     let sum = higher_sum xs ys below in
     let scaled = mul-le (reciprocals xs) (product ys) (lanes * product xs) (product ys) fits (omega arith) in

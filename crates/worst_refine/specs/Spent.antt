@@ -4,7 +4,8 @@ use Rattle.recip_sum.specs.Rounded.{ceiling_sum}
 use Rattle.worst_refine.specs.Fitting.{HasFittingRatios}
 use Rattle.worst_refine.specs.Lowered.{IsLowered}
 
--- for each wire the sum of the reciprocals of its ratios, each rounded up; a sum above 2^64 counts as 2^64 + 1
+-- for each wire the sum of the reciprocals of its ratios, each rounded up; a sum above 2^64 counts as 2^64 +
+-- 1
 pub record IsSpent (routing : Routing) (wires : ℕ) (spent : List ℕ) : Type 0 where
   pub whole : length spent ≡ wires
   pub each : (e : ℕ) → e < wires → slice_index spent e ≡ min (ceiling_sum (ratios_on routing e)) (2 ^ 64 + 1)

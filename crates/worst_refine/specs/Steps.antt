@@ -15,7 +15,8 @@ use Rattle.worst_refine.specs.Fitting.{HasFittingRatios}
 -- with the ratio of a use lowered by 2 its wire has more than one lane takes
 abbrev pub CannotBeLowered : Routing → (n place : ℕ) → Type 0
 CannotBeLowered routing n place = 2 < ratio_at routing n place
-    → ¬ FitsLanes (ratios_on (with_ratio routing n place (ratio_at routing n place - 2)) (wire_at routing n place)) 1
+    → ¬ FitsLanes (ratios_on (with_ratio routing n place (ratio_at routing n place - 2))
+    (wire_at routing n place)) 1
 
 -- the reciprocals rounded down, which sum to this, tell that the ratio cannot be lowered by 2
 abbrev pub FloorsTell : (sum ratio : ℕ) → Type 0
@@ -37,8 +38,10 @@ pub record IsReplaced (before after : map.FinMap nat_cmp ℕ) (old new : ℕ) : 
   pub now : SameReciprocals (items after) (new ∷ rest)
   pub least : IsLeastEven rest 1 new
 
--- the uses of net n from one place on, up to another, cannot be lowered any more, and what could not be lowered cannot now
-pub record IsStep (wires : ℕ) (doubtful : List Bool) (old new : Routing) (counts : List (map.FinMap nat_cmp ℕ)) (n start end : ℕ) : Type 0 where
+-- the uses of net n from one place on, up to another, cannot be lowered any more, and what could not be
+-- lowered cannot now
+pub record IsStep (wires : ℕ) (doubtful : List Bool) (old new : Routing)
+    (counts : List (map.FinMap nat_cmp ℕ)) (n start end : ℕ) : Type 0 where
   pub fitting : HasFittingRatios wires new
   pub lowered : IsLowered old new
   pub counted : CountsRatios doubtful new wires counts

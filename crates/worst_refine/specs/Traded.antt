@@ -13,7 +13,8 @@ IsSmallRatio ratio = IsEvenRatio ratio × (ratio ≤ 4294967294)
 abbrev pub HasSmallRatios : Routing → Type 0
 HasSmallRatios routing = All (λ uses. All (λ ratio. ratio ≤ 4294967294) (ratios_of uses)) routing
 
--- each net uses exactly the wires of its tree, the ratios are legal and small, and the value is below a number
+-- each net uses exactly the wires of its tree, the ratios are legal and small, and the value is below a
+-- number
 pub record IsBetter (board : Board) (trees : List (List ℕ)) (best : ℕ) (routing : Routing) : Type 0 where
   pub legal : IsLegal board routing
   pub wires : trees_of routing ≡ trees

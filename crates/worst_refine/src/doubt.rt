@@ -31,8 +31,8 @@ pub(crate) fn wires_in_doubt(
     Ok(doubtful)
 }
 
-/// Marks the wires of these uses of which it is not sure that their ratios cannot be lowered. At most so many ratios are on a
-/// wire.
+/// Marks the wires of these uses of which it is not sure that their ratios cannot be lowered. At most so many
+/// ratios are on a wire.
 fn doubt(doubtful: &mut [bool], spent: &[u128], uses: &[WireUse], count: u32)
     requires size { length doubtful.old ≡ length spent.now }
     requires there { All (λ (u : WireUse). u.wire < length spent.now) uses.now }
@@ -49,8 +49,8 @@ fn doubt(doubtful: &mut [bool], spent: &[u128], uses: &[WireUse], count: u32)
     }
 }
 
-/// Whether the reciprocals rounded up, which sum to this for at most so many ratios, tell that this one of them cannot be
-/// lowered by 2.
+/// Whether the reciprocals rounded up, which sum to this for at most so many ratios, tell that this one of
+/// them cannot be lowered by 2.
 fn ceilings_tell(sum: u128, count: u32, ratio: u32) -> bool
     requires { 0 < ratio }
     ensures { IsTrue result → CeilingsTell sum count ratio }

@@ -1,4 +1,5 @@
-//! Prices of nets. On a wire whose nets' prices sum to a load, the ratio of a net is about the load over its price.
+//! Prices of nets. On a wire whose nets' prices sum to a load, the ratio of a net is about the load over its
+//! price.
 ghost use Rattle.std.specs.Prelude.{◌≡◌, ◌<◌, length, All};
 ghost use Rattle.net_groups.specs.Incidence.{IsNetGroups};
 
@@ -15,8 +16,8 @@ const LEAST_START: u64 = 1 << 21;
 /// The least price at any time.
 const LEAST_PRICE: u64 = 256;
 
-/// The prices at the start: in proportion to the numbers, the largest about 2^30, but none so small that its ratios
-/// would tell of nothing but that.
+/// The prices at the start: in proportion to the numbers, the largest about 2^30, but none so small that its
+/// ratios would tell of nothing but that.
 pub(crate) fn start_prices(prices: &mut [u32], numbers: &[u64])
     requires { length prices.old ≡ length numbers.now }
 {
@@ -69,8 +70,8 @@ fn add_to_each(loads: &mut [u64], wires: &[u32], price: u64)
     }
 }
 
-/// Makes each net dearer or cheaper: its price is multiplied by its largest group sum over the worst one, and by a
-/// 64th at least. Then all prices are scaled, so that the largest is about 2^30 again.
+/// Makes each net dearer or cheaper: its price is multiplied by its largest group sum over the worst one, and
+/// by a 64th at least. Then all prices are scaled, so that the largest is about 2^30 again.
 pub(crate) fn reprice(prices: &mut [u32], incidence: &Incidence, sums: &[u32], worst: u64)
     requires paired { length prices.old ≡ length incidence.now.of_nets }
     requires groups { length sums.now ≡ incidence.now.groups }

@@ -13,19 +13,21 @@ use tdm_problem::{Problem, Solution, Trees, WireUse};
 /// The half of the greatest even ratio.
 const MOST_HALF: u32 = (1 << 31) - 1;
 
-/// The solution with the trees and the proposed halves of ratios, use by use, if it is legal and its value is below `best`.
+/// The solution with the trees and the proposed halves of ratios, use by use, if it is legal and its value is
+/// below `best`. The halves are let go before it is judged.
 pub(crate) fn checked(
     alloc: Global,
     problem: &Problem,
     trees: &Trees,
-    halves: &[u32],
+    halves: Vec<u32>,
     best: u128,
 ) -> Result<Option<Solution>, AllocError>
     requires trees_for { AreTreesFor problem.now trees.now }
     requires joined { JoinsEachNet problem.now trees.now }
     ensures { IfOk result (λ found. IfSome found (IsBetter problem.now trees.now best)) }
 {
-    let solution = with_halves(alloc, trees, halves)?;
+    let solution = with_halves(alloc, trees, &halves)?;
+    drop(halves);
     if !fits_by_ceilings(alloc, problem.wires(), &solution)? {
         return Ok(None);
     }

@@ -14,8 +14,8 @@ use tdm_problem::{Solution, WireUse};
 /// A wire, in the units in which reciprocals are rounded up.
 pub(crate) const WHOLE: u128 = 1 << 64;
 
-/// For each of so many wires the sum of the reciprocals of its ratios, each rounded up. A sum above [`WHOLE`] counts as one
-/// unit above. All ratios are positive and even.
+/// For each of so many wires the sum of the reciprocals of its ratios, each rounded up. A sum above [`WHOLE`]
+/// counts as one unit above. All ratios are positive and even.
 pub(crate) fn spent_on_wires(
     alloc: Global,
     wires: u32,
@@ -38,7 +38,8 @@ fn spend(spent: &mut [u128], uses: &[WireUse])
     requires positive { All (λ (u : WireUse). 0 < u.ratio) uses.now }
     requires within { All (λ sum. sum ≤ 2 ^ 64 + 1) spent.old }
     ensures { (e : ℕ) → e < length spent.old → slice_index spent.new e
-        ≡ min (slice_index spent.old e + ceiling_sum (ratios_of (filter (λ u. u.wire == e) uses.now))) (2 ^ 64 + 1) }
+        ≡ min (slice_index spent.old e + ceiling_sum (ratios_of (filter (λ u. u.wire == e) uses.now)))
+        (2 ^ 64 + 1) }
 {
     for wire_use in uses {
         let place = wire_use.wire as usize;
@@ -55,7 +56,8 @@ pub(crate) fn fits_by_ceilings(
 ) -> Result<bool, AllocError>
     requires there { All (λ uses. All (λ (u : WireUse). u.wire < wires) uses) solution.now }
     requires even { All (λ uses. All IsEvenRatio (ratios_of uses)) solution.now }
-    ensures { IfOk result (λ fits. IsTrue fits → (e : ℕ) → e < wires → FitsLanes (ratios_on solution.now e) 1) }
+    ensures { IfOk result (λ fits. IsTrue fits → (e : ℕ) → e < wires
+        → FitsLanes (ratios_on solution.now e) 1) }
 {
     let spent = spent_on_wires(alloc, wires, solution)?;
     Ok(none_is_above(&spent))

@@ -8,7 +8,8 @@ use tdm_problem::Problem;
 /// While ratios are not yet whole numbers they count in so many parts.
 pub(crate) const PARTS: u64 = 16;
 
-/// The value of each net at these prices, in parts: the sum over its wires of the load over its price, each at least 2.
+/// The value of each net at these prices, in parts: the sum over its wires of the load over its price, each
+/// at least 2.
 pub(crate) fn value_nets(values: &mut [u32], rows: &FlatRows<u32>, prices: &[u32], loads: &[u64])
     requires there { All (λ row. All (λ e. e < length loads.now) row) rows.now }
     requires paired { length prices.now ≡ length rows.now }

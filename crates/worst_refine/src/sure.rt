@@ -18,8 +18,8 @@ use tdm_problem::{MAX_WIRES, Problem, Solution};
 /// The half of the greatest even ratio.
 const MOST_HALF: u64 = (1 << 31) - 1;
 
-/// Lowers ratios of nets, those of the worst groups first, as far as the reciprocals rounded up leave room. Answers what the
-/// ratios then spend of each wire.
+/// Lowers ratios of nets, those of the worst groups first, as far as the reciprocals rounded up leave room.
+/// Answers what the ratios then spend of each wire.
 ///
 /// The only error is want of memory.
 pub(crate) fn lower_surely(
@@ -119,7 +119,8 @@ fn lower_use(spent: &mut [u128], solution: &mut Solution, n: u32, place: u32)
     solution.set_ratio(n, place, ratio);
 }
 
-/// The least even ratio whose reciprocal is at most this part of a wire, or the greatest even ratio where none is.
+/// The least even ratio whose reciprocal is at most this part of a wire, or the greatest even ratio where
+/// none is.
 fn least_ratio_within(part: u128) -> u32
     ensures { IsEvenRatio result }
 {

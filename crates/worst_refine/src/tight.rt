@@ -22,14 +22,14 @@ use solution_eval::count_ratios;
 use std::alloc::{AllocError, Global};
 use tdm_problem::{MAX_WIRES, Problem, Solution};
 
-/// Lowers ratios of a legal solution until none above 2 can be lowered by 2. The solution stays legal, each net
-/// keeps its wires, and neither a ratio nor the value rises.
+/// Lowers ratios of a legal solution until none above 2 can be lowered by 2. The solution stays legal, each
+/// net keeps its wires, and neither a ratio nor the value rises.
 ///
-/// A cheap pass comes first, in which ratios of nets of the worst groups are lowered before others, as far as reciprocals
-/// rounded up leave room. One exact pass over all uses is then enough: a ratio that is lowered leaves less room for the
-/// others, so that one which could not be lowered still cannot. It counts ratios on those wires alone of which the
-/// reciprocals rounded up do not tell that none can be lowered. There a use is passed over where the reciprocals rounded down
-/// tell that its ratio is the least.
+/// A cheap pass comes first, in which ratios of nets of the worst groups are lowered before others, as far as
+/// reciprocals rounded up leave room. One exact pass over all uses is then enough: a ratio that is lowered
+/// leaves less room for the others, so that one which could not be lowered still cannot. It counts ratios on
+/// those wires alone of which the reciprocals rounded up do not tell that none can be lowered. There a use is
+/// passed over where the reciprocals rounded down tell that its ratio is the least.
 ///
 /// The only error is want of memory, after which all of this holds but that none can be lowered.
 pub fn tighten(
@@ -90,7 +90,8 @@ fn tighten_net(
     ensures size { length counts.new ≡ length counts.old }
     ensures fitting { HasFittingRatios (length counts.old) solution.new }
     ensures lowered { IsLowered solution.old solution.new }
-    ensures step { OnOk result (IsStep (length counts.old) doubtful.now solution.old solution.new counts.new n 0
+    ensures step { OnOk result (IsStep (length counts.old) doubtful.now solution.old solution.new counts.new n
+        0
         (length (uses_of solution.old n))) }
 {
     let places = solution.uses(n).len() as u32;

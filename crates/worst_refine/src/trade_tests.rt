@@ -15,7 +15,8 @@ use std::alloc::{AllocError, Global};
 use std::test::Fail;
 use tdm_problem::{Problem, ProblemDraft, Solution, Trees, Wire, WireUse};
 
-/// Two FPGAs and one wire between them, with five nets, of which the first four are in one group and the last in another.
+/// Two FPGAs and one wire between them, with five nets, of which the first four are in one group and the last
+/// in another.
 fn five_nets(alloc: Global) -> Result<Problem, AllocError>
     ensures { IfOk result (λ p. p ≡ record {
       fpgas = 2;
@@ -40,7 +41,8 @@ fn five_nets(alloc: Global) -> Result<Problem, AllocError>
 fn on_wire_0(alloc: Global, ratios: &[u32]) -> Result<Solution, AllocError>
     requires few { length ratios.now ≤ 5 }
     requires small { All (λ ratio. ratio ≤ 4294967294) ratios.now }
-    ensures solution { IfOk result (λ s. s ≡ map (λ ratio. record { wire = 0; ratio = ratio } ∷ []) ratios.now) }
+    ensures solution { IfOk result (λ s. s ≡ map (λ ratio. record { wire = 0; ratio = ratio } ∷ [])
+        ratios.now) }
     ensures small { IfOk result HasSmallRatios }
 {
     let mut solution = Solution::new(alloc);

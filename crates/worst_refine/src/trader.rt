@@ -1,9 +1,11 @@
-//! A proposal of even ratios for given trees. Nothing is promised of it but that it is made: whoever takes it checks it.
+//! A proposal of even ratios for given trees. Nothing is promised of it but that it is made: whoever takes it
+//! checks it.
 //!
-//! Each net has a price, and a net's ratio on a wire is about the sum of the prices on the wire over its own price. Turn by
-//! turn the nets of large groups are made dearer, so that their ratios become smaller and those of others larger. Then the
-//! ratios are rounded to even numbers, and repriced and rounded again by the sums that these gave.
-ghost use Rattle.std.specs.Prelude.{◌≡◌, ◌<◌, length, All, IfOk, OnOk};
+//! Each net has a price, and a net's ratio on a wire is about the sum of the prices on the wire over its own
+//! price. Turn by turn the nets of large groups are made dearer, so that their ratios become smaller and
+//! those of others larger. Then the ratios are rounded to even numbers, and repriced and rounded again by the
+//! sums that these gave.
+ghost use Rattle.std.specs.Prelude.{◌≡◌, ◌<◌, length, All, IfOk};
 ghost use Rattle.tdm_problem.specs.Trees.{AreTreesFor};
 ghost use Rattle.net_groups.specs.Incidence.{IsIncidenceOf};
 ghost use Rattle.worst_refine.specs.TraderRoom.{IsTraderFor};
@@ -30,7 +32,6 @@ pub(crate) struct Trader {
     wires: Vec<WireRounding>,
     classes: Vec<ClassCosts>,
     costs: Costs,
-    parts: Vec<u32>,
     halves: Vec<u32>,
     best_halves: Vec<u32>,
 }
@@ -56,17 +57,17 @@ impl Trader {
             wires: vec![in alloc; WireRounding::new(); wires]?,
             classes: vec![in alloc; ClassCosts::new(); wires]?,
             costs: Costs::new(alloc)?,
-            parts: Vec::new(alloc),
             halves: Vec::new(alloc),
             best_halves: Vec::new(alloc),
         })
     }
 
-    /// The halves of even ratios, use by use of the rows, by which the largest group sum may be below `best`; none where the trade
-    /// saw that it would not be. The rows are the trees of the nets. All prices change at most `turns` times, the last four of
-    /// them between roundings.
+    /// The halves of even ratios, use by use of the rows, by which the largest group sum may be below `best`;
+    /// none where the trade saw that it would not be. The rows are the trees of the nets. All prices change
+    /// at most `turns` times, the last four of them between roundings.
     pub(crate) fn propose(
         mut self,
+        alloc: Global,
         problem: &Problem,
         incidence: &Incidence,
         rows: &FlatRows<u32>,
@@ -83,14 +84,17 @@ impl Trader {
         if self.take_turns(problem, incidence, rows, goal, turns - roundings + 1) > goal {
             return Ok(None);
         }
-        if self.round_repeatedly(problem, incidence, rows, best, roundings)? >= best {
+        let uses = items_of(rows);
+        self.halves = vec![in alloc; 0u32; uses]?;
+        self.best_halves = vec![in alloc; 0u32; uses]?;
+        if self.round_repeatedly(problem, incidence, rows, best, roundings) >= best {
             return Ok(None);
         }
         Ok(Some(self.best_halves))
     }
 
-    /// Reprices up to so often, until a turn gains less than a 2^13th or the goal is out of reach at twice the last gain. Answers
-    /// the largest group sum at the last prices, in parts.
+    /// Reprices up to so often, until a turn gains less than a 2^13th or the goal is out of reach at twice
+    /// the last gain. Answers the largest group sum at the last prices, in parts.
     fn take_turns(
         &mut self,
         problem: &Problem,
@@ -127,8 +131,8 @@ impl Trader {
         sum_groups(&mut self.group_sums, problem, &self.net_values)
     }
 
-    /// Rounds, and reprices and rounds again, and keeps the best halves. It gives up where the gains cannot lead below `best`.
-    /// Answers the largest group sum of the best.
+    /// Rounds, and reprices and rounds again, and keeps the best halves. It gives up where the gains cannot
+    /// lead below `best`. Answers the largest group sum of the best.
     fn round_repeatedly(
         &mut self,
         problem: &Problem,
@@ -136,7 +140,7 @@ impl Trader {
         rows: &FlatRows<u32>,
         best: u64,
         roundings: u32,
-    ) -> Result<u64, AllocError>
+    ) -> u64
         requires room { IsTraderFor problem.now self.old }
         requires incidence { IsIncidenceOf problem.now incidence.now }
         requires trees_for { AreTreesFor problem.now rows.now }
@@ -147,8 +151,8 @@ impl Trader {
                 reprice(&mut self.prices, incidence, &self.group_sums, last);
                 take_loads(&mut self.loads, rows, &self.prices);
             }
-            if !self.round(problem, rows)? {
-                return Ok(found);
+            if !self.round(problem, rows) {
+                return found;
             }
             let sum = sum_groups(&mut self.group_sums, problem, &self.net_values);
             if sum < found {
@@ -156,30 +160,30 @@ impl Trader {
                 std::mem::swap(&mut self.best_halves, &mut self.halves);
             }
             if k >= 2 && gains_too_little(sum, last, best) {
-                return Ok(found);
+                return found;
             }
             last = sum;
         }
-        Ok(found)
+        found
     }
 
     /// Rounds the ratios at the prices to even numbers. Answers false where they do not fit the wires.
-    fn round(&mut self, problem: &Problem, rows: &FlatRows<u32>) -> Result<bool, AllocError>
+    fn round(&mut self, problem: &Problem, rows: &FlatRows<u32>) -> bool
         requires room { IsTraderFor problem.now self.old }
         requires trees_for { AreTreesFor problem.now rows.now }
-        ensures { OnOk result (IsTraderFor problem.now self.new) }
+        ensures { IsTraderFor problem.now self.new }
     {
         round_up(
-            &mut self.parts,
+            &mut self.halves,
             &mut self.wires,
             &mut self.classes,
             &self.costs,
             rows,
             &self.prices,
             &self.loads,
-        )?;
+        );
         if !lower_all_classes(&mut self.wires, &self.classes) {
-            return Ok(false);
+            return false;
         }
         round_down_some(
             &mut self.halves,
@@ -187,10 +191,18 @@ impl Trader {
             &mut self.wires,
             &self.costs,
             rows,
-            &self.parts,
-        )?;
-        Ok(true)
+        );
+        true
     }
+}
+
+/// How many items the rows have.
+fn items_of(rows: &FlatRows<u32>) -> usize {
+    let mut items = 0usize;
+    for n in 0..rows.rows() {
+        items = items.saturating_add(rows.row(n).len());
+    }
+    items
 }
 
 /// Whether the largest sum stays above the goal where the next turns gain twice as much as the last one.

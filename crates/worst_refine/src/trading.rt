@@ -20,9 +20,9 @@ const TURNS: u32 = 12;
 
 const TURNS_AT_FIRST: u32 = 20;
 
-/// A legal solution with exactly these trees and a value below `best`, if the trade finds one. It begins with ratios by the
-/// numbers `s`, one for each net: on a wire about the sum of the numbers over the net's own. The first trade of a run takes
-/// more turns.
+/// A legal solution with exactly these trees and a value below `best`, if the trade finds one. It begins with
+/// ratios by the numbers `s`, one for each net: on a wire about the sum of the numbers over the net's own.
+/// The first trade of a run takes more turns.
 ///
 /// The trees are for the problem, and each joins its net. The only error is want of memory.
 pub fn trade_from(
@@ -44,9 +44,9 @@ pub fn trade_from(
     better(alloc, problem, incidence, trees, s, best, turns)
 }
 
-/// Trades ratios of a legal solution in up to `turns` exchanges, in each of which nets of the worst groups get smaller ratios and
-/// others larger ones. The solution stays legal, each net keeps its wires, no ratio is above 4,294,967,294, and the value
-/// is not above the old.
+/// Trades ratios of a legal solution in up to `turns` exchanges, in each of which nets of the worst groups
+/// get smaller ratios and others larger ones. The solution stays legal, each net keeps its wires, no ratio is
+/// above 4,294,967,294, and the value is not above the old.
 ///
 /// The only error is want of memory, and all of this holds after it too.
 pub fn trade(
@@ -89,13 +89,30 @@ fn better(
     requires paired { length s.now ≡ length problem.now.nets }
     ensures { IfOk result (λ found. IfSome found (IsBetter problem.now trees.now best)) }
 {
+    match proposed_halves(alloc, problem, incidence, trees, s, best, turns)? {
+        Some(halves) => checked(alloc, problem, trees, halves, best),
+        None => Ok(None),
+    }
+}
+
+/// The halves of ratios that a trade proposes, if it does not see that none are below `best`.
+fn proposed_halves(
+    alloc: Global,
+    problem: &Problem,
+    incidence: &Incidence,
+    trees: &Trees,
+    s: &[u64],
+    best: u128,
+    turns: u32,
+) -> Result<Option<Vec<u32>>, AllocError>
+    requires incidence { IsIncidenceOf problem.now incidence.now }
+    requires trees_for { AreTreesFor problem.now trees.now }
+    requires paired { length s.now ≡ length problem.now.nets }
+{
     let trader = Trader::new(alloc, problem, s)?;
     let rows = rows_of(alloc, trees)?;
     let goal = best.min(u128::from(u64::MAX)) as u64;
-    match trader.propose(problem, incidence, &rows, goal, turns)? {
-        Some(halves) => checked(alloc, problem, trees, &halves, best),
-        None => Ok(None),
-    }
+    trader.propose(alloc, problem, incidence, &rows, goal, turns)
 }
 
 /// The wires of each net, one net after another without gaps, since a trade goes over them many times.
@@ -133,7 +150,8 @@ fn set_wires(wires: &mut Vec<u32>, uses: &[WireUse]) -> Result<(), AllocError>
     Ok(())
 }
 
-/// A number for each net that is the larger the smaller its ratios are: so many 2^-30ths as its mean ratio is a part of.
+/// A number for each net that is the larger the smaller its ratios are: so many 2^-30ths as its mean ratio is
+/// a part of.
 fn numbers_of(alloc: Global, solution: &Solution) -> Result<Vec<u64>, AllocError>
     ensures { IfOk result (λ numbers. length numbers.items ≡ length solution.now) }
 {

@@ -52,8 +52,8 @@ impl ClassCosts {
     }
 }
 
-/// What the uses of a wire cost at the even ratios above, and then how many classes are lowered and what room is left. It
-/// stands apart from [`ClassCosts`], since the second sweep needs it alone.
+/// What the uses of a wire cost at the even ratios above, and then how many classes are lowered and what room
+/// is left. It stands apart from [`ClassCosts`], since the second sweep needs it alone.
 #[derive(Clone, Copy)]
 pub(crate) struct WireRounding {
     spent: u128,
@@ -83,8 +83,8 @@ impl WireRounding {
         }
     }
 
-    /// Lowers whole classes to the even ratio below, the least parts first, as far as there is room. Answers false where
-    /// the even ratios above do not fit the wire.
+    /// Lowers whole classes to the even ratio below, the least parts first, as far as there is room. Answers
+    /// false where the even ratios above do not fit the wire.
     pub(crate) fn lower_classes(&mut self, classes: &ClassCosts) -> bool {
         if self.spent > WHOLE {
             return false;
@@ -102,8 +102,8 @@ impl WireRounding {
         true
     }
 
-    /// The half of the even ratio for a use that was reckoned with so many 64ths: the one below where its class is lowered,
-    /// and also in the next class as long as there is room.
+    /// The half of the even ratio for a use that was reckoned with so many 64ths: the one below where its
+    /// class is lowered, and also in the next class as long as there is room.
     pub(crate) fn rounded_half(&mut self, costs: &Costs, parts: u32) -> u32 {
         let half = parts / CLASSES;
         let class = parts % CLASSES;

@@ -10,4 +10,5 @@ square_above n k h =
     omega (arith, pow-add 2 k 1, pow-add 2 (k / 2 + 1) (k / 2 + 1), more)
 
 pub returns-clause-above : goal.returns-clause-above
-returns-clause-above c = rw (one_shl (c.ilog2.result / 2 + 1) 64 (omega arith)) (square_above c.args.n c.ilog2.result c.ilog2.ensures.next_power_gt)
+returns-clause-above c = rw (one_shl (c.ilog2.result / 2 + 1) 64 (omega arith))
+    (square_above c.args.n c.ilog2.result c.ilog2.ensures.next_power_gt)

@@ -15,10 +15,18 @@ push_group-requires-clause-room c =
 pub push_group-requires-clause-room_listed : goal.push_group-requires-clause-room_listed
 push_group-requires-clause-room_listed c =
     let total = ap (λ (b : Board). sum_by length b.groups) c.loop-j.invariant in
-    omega (arith, total, few_listed (group_of c.args.nets) (λ i. length-without_repeats (i % c.args.nets ∷ (3 * i + 1) % c.args.nets ∷ (5 * i + 2) % c.args.nets ∷ [])) c.loop-j.j)
+    omega (
+      arith,
+      total,
+      few_listed (group_of c.args.nets)
+          (λ i. length-without_repeats
+          (i % c.args.nets ∷ (3 * i + 1) % c.args.nets ∷ (5 * i + 2) % c.args.nets ∷ [])) c.loop-j.j,
+    )
 
 pub loop-j-preserved : goal.loop-j-preserved
 loop-j-preserved c =
     c.in_ok-push_group.ensures.ok
-    ∙ ap (λ (b : Board). record b { groups = b.groups ++ group_of c.args.nets c.loop-j.j ∷ [] }) c.loop-j.invariant
-    ∙ ap (λ (rows : List (List ℕ)). record c.args.draft.now { groups = rows }) (sym (map-range_with_len_more (group_of c.args.nets) 0 c.loop-j.j c.loop-j.j (zero-add c.loop-j.j)))
+    ∙ ap (λ (b : Board). record b { groups = b.groups ++ group_of c.args.nets c.loop-j.j ∷ [] })
+    c.loop-j.invariant
+    ∙ ap (λ (rows : List (List ℕ)). record c.args.draft.now { groups = rows })
+    (sym (map-range_with_len_more (group_of c.args.nets) 0 c.loop-j.j c.loop-j.j (zero-add c.loop-j.j)))

@@ -10,4 +10,5 @@ loop-e-preserved c =
     c.in_ok-push.ensures.items
     ∙ ap (λ xs. xs ++ c.wire.result ∷ []) c.loop-e.invariant
     ∙ ap (λ x. take c.loop-e.e wires ++ x ∷ []) (sym here)
-    ∙ sym (take_more wires c.loop-e.e c.wire.result (slice_get_within wires c.loop-e.e c.wire.result c.wire.ensures.there))
+    ∙ sym (take_more wires c.loop-e.e c.wire.result
+    (slice_get_within wires c.loop-e.e c.wire.result c.wire.ensures.there))

@@ -24,7 +24,11 @@ pub returns-clause-length : goal.returns-clause-length
 returns-clause-length c = ap (λ (t : ℕ). part_of t 1) (rooted c.root_is_exact.ensures)
 
 pub returns-clause-together : goal.returns-clause-together
-returns-clause-together c = ap (λ (t : ℕ). least_even (2 * part_of t 1 * t - 1 * (part_of t 1 * part_of t 1)) 1048576) (rooted c.root_is_exact.ensures)
+returns-clause-together c =
+    ap (λ (t : ℕ). least_even (2 * part_of t 1 * t - 1 * (part_of t 1 * part_of t 1)) 1048576)
+    (rooted c.root_is_exact.ensures)
 
 pub returns-clause-apart : goal.returns-clause-apart
-returns-clause-apart c = ap (λ (t : ℕ). least_even (2 * part_of t 1 * t - 1 * (part_of t 1 * part_of t 1)) 3145728) (rooted_apart c.root_is_exact.ensures)
+returns-clause-apart c =
+    ap (λ (t : ℕ). least_even (2 * part_of t 1 * t - 1 * (part_of t 1 * part_of t 1)) 3145728)
+    (rooted_apart c.root_is_exact.ensures)

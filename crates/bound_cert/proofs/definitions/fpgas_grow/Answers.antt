@@ -28,8 +28,13 @@ abbrev triangle_left : Arcs
 triangle_left = worn unit (λ f. 1 - at (1 ∷ 0 ∷ 1 ∷ []) 1 f)
 
 triangle-2 : GrowOver ring 0 (2 ∷ []) triangle_left 1
-triangle-2 = one-grows ring triangle_left (at (1 ∷ 1 ∷ 0 ∷ []) 1) (omega arith, omega arith, (omega arith, omega arith, (omega arith, omega arith, tt)))
-    2 0 [] 1 0 0 refl (0, omega arith, refl) (2 ∷ [], (0, back ring 2 0 2 refl, (0, (refl, refl), refl))) (omega arith, tt) near refl
+triangle-2 = one-grows ring triangle_left (at (1 ∷ 1 ∷ 0 ∷ []) 1) (
+  omega arith,
+  omega arith,
+  (omega arith, omega arith, (omega arith, omega arith, tt)),
+)
+    2 0 [] 1 0 0 refl (0, omega arith, refl) (2 ∷ [], (0, back ring 2 0 2 refl, (0, (refl, refl), refl)))
+    (omega arith, tt) near refl
   where
     near : Near ring triangle_left (at (1 ∷ 1 ∷ 0 ∷ []) 1) 2 1
     near zero = inl (omega arith)
@@ -38,8 +43,18 @@ triangle-2 = one-grows ring triangle_left (at (1 ∷ 1 ∷ 0 ∷ []) 1) (omega a
     near (suc (suc (suc f))) = inl (omega arith)
 
 triangle-1 : GrowOver ring 0 (1 ∷ 2 ∷ []) unit 2
-triangle-1 = one-grows ring unit (at (1 ∷ 0 ∷ 1 ∷ []) 1) (omega arith, omega arith, (omega arith, omega arith, (omega arith, omega arith, tt)))
-    1 0 (2 ∷ []) 1 1 0 refl (0, omega arith, refl) (0 ∷ [], (0, back ring 0 0 1 refl, (0, (refl, refl), refl))) (omega arith, (omega arith, tt)) near triangle-2
+triangle-1 = one-grows ring unit (at (1 ∷ 0 ∷ 1 ∷ []) 1) (
+  omega arith,
+  omega arith,
+  (omega arith, omega arith, (omega arith, omega arith, tt)),
+)
+    1 0 (2 ∷ []) 1 1 0 refl (0, omega arith, refl) (
+      0 ∷ [],
+      (0, back ring 0 0 1 refl, (0, (refl, refl), refl)),
+    ) (
+      omega arith,
+      (omega arith, tt),
+    ) near triangle-2
   where
     near : Near ring unit (at (1 ∷ 0 ∷ 1 ∷ []) 1) 1 1
     near zero = inl (omega arith)
@@ -55,24 +70,59 @@ abbrev ring_left : Arcs
 ring_left = worn unit (λ f. 1 - at (1 ∷ 1 ∷ 0 ∷ 1 ∷ 1 ∷ []) 1 f)
 
 ring-3 : GrowOver ring_of_five 0 (3 ∷ []) ring_left 2
-ring-3 = one-grows ring_of_five ring_left (at (2 ∷ 1 ∷ 1 ∷ 0 ∷ 1 ∷ []) 2)
-    (omega arith, omega arith, (omega arith, omega arith, (omega arith, omega arith, (omega arith, omega arith, (omega arith, omega arith, tt)))))
-    3 0 [] 2 0 0 refl (0, omega arith, refl)
-    (3 ∷ 4 ∷ [], (4, forth ring_of_five 3 3 4 refl, (1, (0, forth ring_of_five 4 4 0 refl, (0, (refl, refl), refl)), refl)))
+ring-3 = one-grows ring_of_five ring_left (at (2 ∷ 1 ∷ 1 ∷ 0 ∷ 1 ∷ []) 2) (
+  omega arith,
+  omega arith,
+  (
+    omega arith,
+    omega arith,
+    (omega arith, omega arith, (omega arith, omega arith, (omega arith, omega arith, tt))),
+  ),
+)
+    3 0 [] 2 0 0 refl (0, omega arith, refl) (
+      3 ∷ 4 ∷ [],
+      (
+        4,
+        forth ring_of_five 3 3 4 refl,
+        (1, (0, forth ring_of_five 4 4 0 refl, (0, (refl, refl), refl)), refl),
+      ),
+    )
     (omega arith, tt) near refl
   where
     near : Near ring_of_five ring_left (at (2 ∷ 1 ∷ 1 ∷ 0 ∷ 1 ∷ []) 2) 3 2
     near zero = inl (omega arith)
-    near (suc zero) = inr (2 ∷ 1 ∷ [], (2, back ring_of_five 2 2 3 refl, (0, (1, back ring_of_five 1 1 2 refl, (0, (refl, refl), refl)), refl)))
+    near (suc zero) = inr (
+      2 ∷ 1 ∷ [],
+      (
+        2,
+        back ring_of_five 2 2 3 refl,
+        (
+          0,
+          (1, back ring_of_five 1 1 2 refl, (0, (refl, refl), refl)),
+          refl,
+        ),
+      ),
+    )
     near (suc (suc zero)) = inr (2 ∷ [], (2, back ring_of_five 2 2 3 refl, (0, (refl, refl), refl)))
     near (suc (suc (suc zero))) = inr ([], (refl, refl))
-    near (suc (suc (suc (suc zero)))) = inr (3 ∷ [], (4, forth ring_of_five 3 3 4 refl, (0, (refl, refl), refl)))
+    near (suc (suc (suc (suc zero)))) =
+        inr (3 ∷ [], (4, forth ring_of_five 3 3 4 refl, (0, (refl, refl), refl)))
     near (suc (suc (suc (suc (suc f))))) = inl (omega arith)
 
 ring-2 : GrowOver ring_of_five 0 (2 ∷ 3 ∷ []) unit 3
-ring-2 = one-grows ring_of_five unit (at (1 ∷ 1 ∷ 0 ∷ 1 ∷ 1 ∷ []) 1)
-    (omega arith, omega arith, (omega arith, omega arith, (omega arith, omega arith, (omega arith, omega arith, (omega arith, omega arith, tt)))))
-    2 0 (3 ∷ []) 1 2 3 refl (1, omega arith, refl) (2 ∷ [], (3, forth ring_of_five 2 2 3 refl, (0, (refl, refl), refl)))
+ring-2 = one-grows ring_of_five unit (at (1 ∷ 1 ∷ 0 ∷ 1 ∷ 1 ∷ []) 1) (
+  omega arith,
+  omega arith,
+  (
+    omega arith,
+    omega arith,
+    (omega arith, omega arith, (omega arith, omega arith, (omega arith, omega arith, tt))),
+  ),
+)
+    2 0 (3 ∷ []) 1 2 3 refl (1, omega arith, refl) (
+      2 ∷ [],
+      (3, forth ring_of_five 2 2 3 refl, (0, (refl, refl), refl)),
+    )
     (omega arith, (omega arith, tt)) near ring-3
   where
     near : Near ring_of_five unit (at (1 ∷ 1 ∷ 0 ∷ 1 ∷ 1 ∷ []) 1) 2 1
@@ -91,8 +141,15 @@ abbrev star_left : Arcs
 star_left = worn unit (λ f. 2 - at (1 ∷ 2 ∷ 0 ∷ 2 ∷ []) 2 f)
 
 star-3 : GrowOver star 1 (3 ∷ []) star_left 1
-star-3 = one-grows star star_left (at (1 ∷ 1 ∷ 2 ∷ 0 ∷ []) 1) (omega arith, omega arith, (omega arith, omega arith, (omega arith, omega arith, tt)))
-    3 1 [] 1 0 1 refl (0, omega arith, refl) (2 ∷ 0 ∷ [], (0, back star 2 0 3 refl, (0, (1, forth star 0 0 1 refl, (0, (refl, refl), refl)), refl)))
+star-3 = one-grows star star_left (at (1 ∷ 1 ∷ 2 ∷ 0 ∷ []) 1) (
+  omega arith,
+  omega arith,
+  (omega arith, omega arith, (omega arith, omega arith, tt)),
+)
+    3 1 [] 1 0 1 refl (0, omega arith, refl) (
+      2 ∷ 0 ∷ [],
+      (0, back star 2 0 3 refl, (0, (1, forth star 0 0 1 refl, (0, (refl, refl), refl)), refl)),
+    )
     (omega arith, tt) near refl
   where
     near : Near star star_left (at (1 ∷ 1 ∷ 2 ∷ 0 ∷ []) 1) 3 1
@@ -103,8 +160,15 @@ star-3 = one-grows star star_left (at (1 ∷ 1 ∷ 2 ∷ 0 ∷ []) 1) (omega ari
     near (suc (suc (suc (suc f)))) = inl (omega arith)
 
 star-2 : GrowOver star 1 (2 ∷ 3 ∷ []) unit 3
-star-2 = one-grows star unit (at (1 ∷ 2 ∷ 0 ∷ 2 ∷ []) 2) (omega arith, omega arith, (omega arith, omega arith, (omega arith, omega arith, tt)))
-    2 1 (3 ∷ []) 2 1 1 refl (0, omega arith, refl) (1 ∷ 0 ∷ [], (0, back star 1 0 2 refl, (1, (1, forth star 0 0 1 refl, (0, (refl, refl), refl)), refl)))
+star-2 = one-grows star unit (at (1 ∷ 2 ∷ 0 ∷ 2 ∷ []) 2) (
+  omega arith,
+  omega arith,
+  (omega arith, omega arith, (omega arith, omega arith, tt)),
+)
+    2 1 (3 ∷ []) 2 1 1 refl (0, omega arith, refl) (
+      1 ∷ 0 ∷ [],
+      (0, back star 1 0 2 refl, (1, (1, forth star 0 0 1 refl, (0, (refl, refl), refl)), refl)),
+    )
     (omega arith, (omega arith, tt)) near star-3
   where
     near : Near star unit (at (1 ∷ 2 ∷ 0 ∷ 2 ∷ []) 2) 2 2

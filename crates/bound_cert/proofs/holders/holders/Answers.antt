@@ -10,7 +10,8 @@ count_members-requires-clause-few c =
     (λ n d there.
     omega (
       arith,
-      held_few c.args.problem.now.groups (length c.args.problem.now.nets) c.loop-g.g c.loop-g.counts.items c.loop-g.invariant (omega arith) n d there,
+      held_few c.args.problem.now.groups (length c.args.problem.now.nets) c.loop-g.g c.loop-g.counts.items
+          c.loop-g.invariant (omega arith) n d there,
       c.groups-g-end.ensures.board.group_limit,
     ))
 
@@ -18,6 +19,7 @@ pub returns-clause-few : goal.returns-clause-few
 returns-clause-few c n d there =
     omega (
       arith,
-      held_few c.args.problem.now.groups (length c.args.problem.now.nets) c.loop-g.g c.loop-g.counts.items c.loop-g.invariant (omega arith) n d there,
+      held_few c.args.problem.now.groups (length c.args.problem.now.nets) c.loop-g.g c.loop-g.counts.items
+          c.loop-g.invariant (omega arith) n d there,
       c.groups-g-end.ensures.board.group_limit,
     )

@@ -19,21 +19,30 @@ loop-n-preserved c =
     let row : List ℕ = c.index-potentials-choices.result in
     let choice : ℕ = slice_index c.args.choices.now c.loop-n.n in
     let there : c.loop-n.n < length c.args.problem.now.nets = omega arith in
-    let chose = chosen c.args.problem.now (λ _. 1) c.args.potentials.now c.args.choices.now c.loop-n.n c.requires.potentials c.requires.choices there in
+    let chose = chosen c.args.problem.now (λ _. 1) c.args.potentials.now c.args.choices.now c.loop-n.n
+    c.requires.potentials c.requires.choices there in
     let hops : IsRootPotential c.args.problem.now (λ _. 1) (source_of c.args.problem.now c.loop-n.n) row =
-    chosen_read c.args.problem.now (λ _. 1) c.args.potentials.now c.loop-n.n choice row chose c.index-potentials-choices.is in
+    chosen_read c.args.problem.now (λ _. 1) c.args.potentials.now c.loop-n.n choice row chose
+    c.index-potentials-choices.is in
     let values : c.values.result.now ≡ row = c.values.ensures in
     let depth : IsDepthOf c.args.problem.now c.loop-n.n new row =
-    depth_read c.args.problem.now c.loop-n.n new row c.net.result.now c.nets.ensures.board there (c.requires.connectable c.loop-n.n there) hops c.net.ensures.value
-    (subst (λ (vs : List ℕ). new ≡ largest (map (value_at vs) c.net.result.now)) values c.largest_value.ensures) in
+    depth_read c.args.problem.now c.loop-n.n new row c.net.result.now c.nets.ensures.board there
+    (c.requires.connectable c.loop-n.n there) hops c.net.ensures.value
+    (subst (λ (vs : List ℕ). new ≡ largest (map (value_at vs) c.net.result.now)) values
+    c.largest_value.ensures) in
     let pushed : c.push.new.self.items ≡ old ++ new ∷ [] = c.in_ok-push.ensures.items in
     record {
-      count = subst (λ (hs : List ℕ). length hs ≡ c.loop-n.n + 1) (sym pushed) (omega (arith, length_push old new, c.loop-n.invariant.count));
-      each = subst (λ (hs : List ℕ). (k : ℕ) → k < c.loop-n.n + 1 → IsDepth c.args.problem.now k (slice_index hs k)) (sym pushed)
-          (each_pushed (λ k h. IsDepth c.args.problem.now k h) old new 0 c.loop-n.n c.loop-n.invariant.count c.loop-n.invariant.each depth.is);
+      count = subst (λ (hs : List ℕ). length hs ≡ c.loop-n.n + 1) (sym pushed)
+          (omega (arith, length_push old new, c.loop-n.invariant.count));
+      each = subst (λ (hs : List ℕ). (k : ℕ) → k < c.loop-n.n + 1
+          → IsDepth c.args.problem.now k (slice_index hs k)) (sym pushed)
+          (each_pushed (λ k h. IsDepth c.args.problem.now k h) old new 0 c.loop-n.n c.loop-n.invariant.count
+          c.loop-n.invariant.each depth.is);
       within = λ most small. subst (λ (hs : List ℕ). All (λ h. h ≤ most) hs) (sym pushed)
           (All-push (λ h. h ≤ most) old new (c.loop-n.invariant.within most small)
           (depth.within most
-          (subst (λ (vs : List ℕ). All (λ v. v ≤ most) vs) (sym (row_chosen c.args.problem.now (λ _. 1) c.args.potentials.now c.loop-n.n choice row chose c.index-potentials-choices.is))
+          (subst (λ (vs : List ℕ). All (λ v. v ≤ most) vs)
+          (sym (row_chosen c.args.problem.now (λ _. 1) c.args.potentials.now c.loop-n.n choice row
+          chose c.index-potentials-choices.is))
           (small chose.place [] chose.there))));
     }

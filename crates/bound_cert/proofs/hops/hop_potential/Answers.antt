@@ -7,15 +7,21 @@ use Rattle.bound_cert.proofs.hops.hop_potential.Goals as goal
 
 pub returns-clause-hops : goal.returns-clause-hops
 returns-clause-hops c board same =
-    subst (λ (values : List ℕ). IsRootPotential board (λ _. 1) c.args.root values) (sym (c.new.ensures ∙ c.in_ok-values.ensures.values))
-    (all_hops c.args.graph.now c.in_ok-forest.forest c.in_ok-values.ensures.graph c.in_ok-forest.ensures.hops c.args.root c.in_ok-forest.ensures.root board same)
+    subst (λ (values : List ℕ). IsRootPotential board (λ _. 1) c.args.root values)
+    (sym (c.new.ensures ∙ c.in_ok-values.ensures.values))
+    (all_hops c.args.graph.now c.in_ok-forest.forest c.in_ok-values.ensures.graph c.in_ok-forest.ensures.hops
+    c.args.root c.in_ok-forest.ensures.root board same)
 
 pub returns-clause-small : goal.returns-clause-small
 returns-clause-small c =
-    subst (λ (values : List ℕ). All (λ v. v ≤ most_fpgas) values) (sym (c.new.ensures ∙ c.in_ok-values.ensures.values))
-    (all_small c.args.graph.now c.in_ok-forest.forest c.in_ok-values.ensures.graph c.in_ok-forest.ensures.hops)
+    subst (λ (values : List ℕ). All (λ v. v ≤ most_fpgas) values)
+    (sym (c.new.ensures ∙ c.in_ok-values.ensures.values))
+    (all_small c.args.graph.now c.in_ok-forest.forest c.in_ok-values.ensures.graph
+    c.in_ok-forest.ensures.hops)
 
 pub returns-clause-short : goal.returns-clause-short
 returns-clause-short c =
-    subst (λ (values : List ℕ). All (λ v. v ≤ length c.args.graph.now.wires) values) (sym (c.new.ensures ∙ c.in_ok-values.ensures.values))
-    (all_short c.args.graph.now c.in_ok-forest.forest c.in_ok-values.ensures.graph c.in_ok-forest.ensures.hops)
+    subst (λ (values : List ℕ). All (λ v. v ≤ length c.args.graph.now.wires) values)
+    (sym (c.new.ensures ∙ c.in_ok-values.ensures.values))
+    (all_short c.args.graph.now c.in_ok-forest.forest c.in_ok-values.ensures.graph
+    c.in_ok-forest.ensures.hops)

@@ -15,12 +15,17 @@ loop-root-preserved c =
     let Small : List ℕ → Type 0 = All (λ v. v ≤ most_fpgas) in
     let Short : List ℕ → Type 0 = All (λ v. v ≤ length c.args.graph.now.wires) in
     record {
-      count = subst (λ (ps : List (List ℕ)). length ps ≡ c.loop-root.root-index + 1) (sym pushed) (omega (arith, length_push old new, c.loop-root.invariant.count));
-      each = λ board same. subst (λ (ps : List (List ℕ)). (p : ℕ) → p < c.loop-root.root-index + 1 → IsRootPotential board (λ _. 1) (slice_index c.args.roots.now p) (get_or ps p [])) (sym pushed)
-          (each_pushed (λ p potential. IsRootPotential board (λ _. 1) (slice_index c.args.roots.now p) potential) old new [] c.loop-root.root-index c.loop-root.invariant.count
+      count = subst (λ (ps : List (List ℕ)). length ps ≡ c.loop-root.root-index + 1) (sym pushed)
+          (omega (arith, length_push old new, c.loop-root.invariant.count));
+      each = λ board same. subst (λ (ps : List (List ℕ)). (p : ℕ) → p < c.loop-root.root-index + 1
+          → IsRootPotential board (λ _. 1) (slice_index c.args.roots.now p) (get_or ps p [])) (sym pushed)
+          (each_pushed (λ p potential. IsRootPotential board (λ _. 1) (slice_index c.args.roots.now p)
+          potential) old new [] c.loop-root.root-index c.loop-root.invariant.count
           (c.loop-root.invariant.each board same) (c.in_ok-hop_potential.ensures.hops board same));
-      small = subst (λ (ps : List (List ℕ)). All Small ps) (sym pushed) (All-push Small old new c.loop-root.invariant.small c.in_ok-hop_potential.ensures.small);
-      short = subst (λ (ps : List (List ℕ)). All Short ps) (sym pushed) (All-push Short old new c.loop-root.invariant.short c.in_ok-hop_potential.ensures.short);
+      small = subst (λ (ps : List (List ℕ)). All Small ps) (sym pushed)
+          (All-push Small old new c.loop-root.invariant.small c.in_ok-hop_potential.ensures.small);
+      short = subst (λ (ps : List (List ℕ)). All Short ps) (sym pushed)
+          (All-push Short old new c.loop-root.invariant.short c.in_ok-hop_potential.ensures.short);
     }
 
 pub returns-clause-hops : goal.returns-clause-hops

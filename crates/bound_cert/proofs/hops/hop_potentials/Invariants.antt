@@ -9,7 +9,8 @@ use Rattle.bound_cert.proofs.hops.hop_potentials.Given as goal
 abbrev pub invariant-loop-root : goal.invariant-loop-root
 invariant-loop-root l = record {
   count : length l.potentials.items ≡ l.root-index;
-  each : (board : Board) → l.graph ≡ graph_of board → (p : ℕ) → p < l.root-index → IsRootPotential board (λ _. 1) (slice_index l.roots p) (get_or l.potentials.items p []);
+  each : (board : Board) → l.graph ≡ graph_of board → (p : ℕ) → p < l.root-index
+      → IsRootPotential board (λ _. 1) (slice_index l.roots p) (get_or l.potentials.items p []);
   small : All (All (λ v. v ≤ most_fpgas)) l.potentials.items;
   short : All (All (λ v. v ≤ length l.graph.wires)) l.potentials.items;
 }

@@ -6,10 +6,17 @@ use Rattle.bound_cert.specs.CertReading.{cert_of}
 use Rattle.bound_cert.proofs.laws_text.cut_text_says_the_same.Goals as goal
 
 -- a text that is too long is so when it is cut, too
-long : (board : Board) (text : List ℕ) → 2 ^ 30 < length text → cert_of board (take (2 ^ 30 + 1) text) ≡ cert_of board text
+long : (board : Board) (text : List ℕ) → 2 ^ 30 < length text → cert_of board (take (2 ^ 30 + 1) text)
+    ≡ cert_of board text
 long board text above =
-    let cut : length (take (2 ^ 30 + 1) text) ≡ 2 ^ 30 + 1 = length-take-le (2 ^ 30 + 1) text (omega (arith, above)) in
-    rw (lt-ltb (2 ^ 30) (length (take (2 ^ 30 + 1) text)) (omega (arith, cut)), lt-ltb (2 ^ 30) (length text) above) refl
+    let cut : length (take (2 ^ 30 + 1) text) ≡ 2 ^ 30 + 1 =
+    length-take-le (2 ^ 30 + 1) text (omega (arith, above)) in
+    rw (
+      lt-ltb (2 ^ 30) (length (take (2 ^ 30 + 1) text)) (omega (arith, cut)),
+      lt-ltb (2 ^ 30) (length text) above,
+    ) refl
 
 pub returns : goal.returns
-returns c = λ board text. ⊎_elim (λ above. long board text above) (λ short. ap (cert_of board) (take_all (2 ^ 30 + 1) text (omega (arith, short)))) (cases_lt (2 ^ 30) (length text))
+returns c = λ board text. ⊎_elim (λ above. long board text above)
+    (λ short. ap (cert_of board) (take_all (2 ^ 30 + 1) text (omega (arith, short))))
+    (cases_lt (2 ^ 30) (length text))

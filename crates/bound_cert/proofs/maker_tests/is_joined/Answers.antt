@@ -12,6 +12,9 @@ on_some (Some a) P some holds = holds
 
 pub returns : goal.returns
 returns c joined =
-    let P : Type 0 = (board : Board) → c.args.graph.now ≡ graph_of board → IsConnectable board c.net-net.result.now in
-    let connectable : P = on_some c.in_ok-tree.tree P (sym c.is_some.ensures ∙ joined) c.in_ok-tree.ensures.some in
-    subst (λ (net : List ℕ). IsConnectable c.args.problem.now net) (sym c.net-net.ensures.value) (connectable c.args.problem.now c.requires.graph)
+    let P : Type 0 = (board : Board) → c.args.graph.now ≡ graph_of board
+    → IsConnectable board c.net-net.result.now in
+    let connectable : P = on_some c.in_ok-tree.tree P (sym c.is_some.ensures
+    ∙ joined) c.in_ok-tree.ensures.some in
+    subst (λ (net : List ℕ). IsConnectable c.args.problem.now net) (sym c.net-net.ensures.value)
+    (connectable c.args.problem.now c.requires.graph)

@@ -12,9 +12,12 @@ pub loop-potential-preserved : goal.loop-potential-preserved
 loop-potential-preserved c =
     let i : ℕ = c.loop-potential.potential-index in
     let there : i < length c.loop-potential.potentials = omega arith in
-    replaced_more (IsScaled c.args.length) [] i c.args.potentials.now c.loop-potential.potentials c.scale.new.self there c.loop-potential.invariant
-    (subst (λ (potential : List ℕ). IsScaled c.args.length potential c.scale.new.self) (get_or_default c.loop-potential.potentials i c.potential-item.result [] there) c.scale.ensures)
+    replaced_more (IsScaled c.args.length) [] i c.args.potentials.now c.loop-potential.potentials
+    c.scale.new.self there c.loop-potential.invariant
+    (subst (λ (potential : List ℕ). IsScaled c.args.length potential c.scale.new.self)
+    (get_or_default c.loop-potential.potentials i c.potential-item.result [] there) c.scale.ensures)
 
 pub returns : goal.returns
 returns c =
-    AreScaled-done c.args.length c.loop-potential.potential-index c.args.potentials.now c.loop-potential.potentials c.loop-potential.invariant (omega arith)
+    AreScaled-done c.args.length c.loop-potential.potential-index c.args.potentials.now
+    c.loop-potential.potentials c.loop-potential.invariant (omega arith)

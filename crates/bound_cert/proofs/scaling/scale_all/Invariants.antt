@@ -4,4 +4,5 @@ use Rattle.bound_cert.proofs.InPlace.{IsReplacedBelow}
 use Rattle.bound_cert.proofs.scaling.scale_all.Given as goal
 
 abbrev pub invariant-loop-potential : goal.invariant-loop-potential
-invariant-loop-potential l = IsReplacedBelow (IsScaled l.length) [] l.potential-index l.fn.potentials l.potentials
+invariant-loop-potential l = IsReplacedBelow (IsScaled l.length) [] l.potential-index l.fn.potentials
+    l.potentials

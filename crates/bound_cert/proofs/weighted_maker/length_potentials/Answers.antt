@@ -15,11 +15,16 @@ loop-root-preserved c =
     let Within : List ℕ → Type 0 = All (λ v. v ≤ most_potential_value) in
     let wire_length : ℕ → ℕ = λ e. get_or c.args.lengths.now e 0 in
     record {
-      count = subst (λ (ps : List (List ℕ)). length ps ≡ c.loop-root.root-index + 1) (sym pushed) (omega (arith, length_push old new, c.loop-root.invariant.count));
-      each = λ board same. subst (λ (ps : List (List ℕ)). (p : ℕ) → p < c.loop-root.root-index + 1 → IsRootPotential board wire_length (slice_index c.args.roots.now p) (get_or ps p [])) (sym pushed)
-          (each_pushed (λ p potential. IsRootPotential board wire_length (slice_index c.args.roots.now p) potential) old new [] c.loop-root.root-index c.loop-root.invariant.count
+      count = subst (λ (ps : List (List ℕ)). length ps ≡ c.loop-root.root-index + 1) (sym pushed)
+          (omega (arith, length_push old new, c.loop-root.invariant.count));
+      each = λ board same. subst (λ (ps : List (List ℕ)). (p : ℕ) → p < c.loop-root.root-index + 1
+          → IsRootPotential board wire_length (slice_index c.args.roots.now p) (get_or ps p []))
+          (sym pushed)
+          (each_pushed (λ p potential. IsRootPotential board wire_length (slice_index c.args.roots.now p)
+          potential) old new [] c.loop-root.root-index c.loop-root.invariant.count
           (c.loop-root.invariant.each board same) (c.in_ok-length_potential.ensures.least board same));
-      within = subst (λ (ps : List (List ℕ)). All Within ps) (sym pushed) (All-push Within old new c.loop-root.invariant.within c.in_ok-length_potential.ensures.within);
+      within = subst (λ (ps : List (List ℕ)). All Within ps) (sym pushed)
+          (All-push Within old new c.loop-root.invariant.within c.in_ok-length_potential.ensures.within);
     }
 
 pub returns-clause-least : goal.returns-clause-least

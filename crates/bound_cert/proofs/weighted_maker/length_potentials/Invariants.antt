@@ -9,6 +9,8 @@ use Rattle.bound_cert.proofs.weighted_maker.length_potentials.Given as goal
 abbrev pub invariant-loop-root : goal.invariant-loop-root
 invariant-loop-root l = record {
   count : length l.potentials.items ≡ l.root-index;
-  each : (board : Board) → l.graph ≡ graph_of board → (p : ℕ) → p < l.root-index → IsRootPotential board (λ e. get_or l.lengths e 0) (slice_index l.roots p) (get_or l.potentials.items p []);
+  each : (board : Board) → l.graph ≡ graph_of board → (p : ℕ) → p < l.root-index
+      → IsRootPotential board (λ e. get_or l.lengths e 0) (slice_index l.roots p)
+      (get_or l.potentials.items p []);
   within : All (All (λ v. v ≤ most_potential_value)) l.potentials.items;
 }

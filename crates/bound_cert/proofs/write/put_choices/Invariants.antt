@@ -5,4 +5,5 @@ use Rattle.bound_cert.specs.CertText.{number_line}
 use Rattle.bound_cert.proofs.write.put_choices.Given as goal
 
 abbrev pub invariant-loop-choice : goal.invariant-loop-choice
-invariant-loop-choice g l = Brings g.D.Desk.seen g.D.Desk.counts g.D.Desk.steady l.slot (l.fn.pending ++ flat_map number_line (take l.choice-index l.choices)) l.fn.desk l.pending l.desk
+invariant-loop-choice g l = Brings g.D.Desk.seen g.D.Desk.counts g.D.Desk.steady l.slot
+    (l.fn.pending ++ flat_map number_line (take l.choice-index l.choices)) l.fn.desk l.pending l.desk

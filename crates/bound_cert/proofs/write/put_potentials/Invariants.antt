@@ -5,4 +5,5 @@ use Rattle.text_writer.specs.Writing.{Brings}
 use Rattle.bound_cert.proofs.write.put_potentials.Given as goal
 
 abbrev pub invariant-loop-p : goal.invariant-loop-p
-invariant-loop-p g l = Brings g.D.Desk.seen g.D.Desk.counts g.D.Desk.steady l.slot (l.fn.pending ++ flat_map line_text (take l.p l.cert.potentials)) l.fn.desk l.pending l.desk
+invariant-loop-p g l = Brings g.D.Desk.seen g.D.Desk.counts g.D.Desk.steady l.slot
+    (l.fn.pending ++ flat_map line_text (take l.p l.cert.potentials)) l.fn.desk l.pending l.desk

@@ -9,7 +9,11 @@ pub loop-number-preserved : goal.loop-number-preserved
 loop-number-preserved c =
     let inside : c.loop-number.number-index < length c.args.numbers.now = omega arith in
     let root : c.from.result ≡ root_of (get_or c.loop-number.numbers c.loop-number.number-index 0) =
-    c.from.ensures ∙ root_of-is (get_or c.loop-number.numbers c.loop-number.number-index 0) c.isqrt.result c.isqrt.ensures.square_at_most c.isqrt.ensures.next_square_above in
+    c.from.ensures ∙ root_of-is (get_or c.loop-number.numbers c.loop-number.number-index 0) c.isqrt.result
+    c.isqrt.ensures.square_at_most c.isqrt.ensures.next_square_above in
     ap (set c.loop-number.numbers c.loop-number.number-index) root
-    ∙ map_over_more root_of c.args.numbers.now c.loop-number.numbers c.loop-number.number-index (get_or c.loop-number.numbers c.loop-number.number-index 0) inside c.loop-number.invariant
-    (get_or_default c.loop-number.numbers c.loop-number.number-index 0 (get_or c.loop-number.numbers c.loop-number.number-index 0) (omega (arith, c.loop-number.auto.numbers)))
+    ∙ map_over_more root_of c.args.numbers.now c.loop-number.numbers c.loop-number.number-index
+    (get_or c.loop-number.numbers c.loop-number.number-index 0) inside c.loop-number.invariant
+    (get_or_default c.loop-number.numbers c.loop-number.number-index 0
+    (get_or c.loop-number.numbers c.loop-number.number-index 0)
+    (omega (arith, c.loop-number.auto.numbers)))

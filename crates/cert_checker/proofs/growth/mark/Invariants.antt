@@ -4,5 +4,6 @@ use Rattle.shortest_forest.specs.Labels.{Labels}
 use Rattle.cert_checker.proofs.growth.mark.Given as goal
 
 abbrev pub invariant-loop-f : goal.invariant-loop-f
-invariant-loop-f l = (begun : Labels) × (begun.labels ≡ replicate (length l.fn.search.labels) None) × (begun.goals ≡ l.fn.search.goals)
+invariant-loop-f l = (begun : Labels) × (begun.labels ≡ replicate (length l.fn.search.labels) None)
+    × (begun.goals ≡ l.fn.search.goals)
     × ((others : ℕ) × IsMarking l.fpgas (length l.fn.search.goals) l.f-index begun l.search others)

@@ -16,9 +16,11 @@ nearest_goal-requires-clause-under_way c =
     let none : Option Label = None in
     let board = board_of c.args.graph.now in
     let arcs = arcs_of c.args.up.now c.args.down.now in
-    let count = ap length c.begin.ensures.labels ∙ length-replicate (length c.args.search.now.labels) none ∙ c.requires.labels in
+    let count = ap length c.begin.ensures.labels ∙ length-replicate (length c.args.search.now.labels) none
+    ∙ c.requires.labels in
     let marks = ap length c.begin.ensures.goals ∙ c.requires.goals in
-    c.in_ok-add_source.ensures.under_way board arcs (λ _. 0) (2 ^ 64 - 2 ^ 51) (c.begin.ensures.begun board arcs (λ _. 0) (2 ^ 64 - 2 ^ 51) count marks)
+    c.in_ok-add_source.ensures.under_way board arcs (λ _. 0) (2 ^ 64 - 2 ^ 51)
+    (c.begin.ensures.begun board arcs (λ _. 0) (2 ^ 64 - 2 ^ 51) count marks)
 
 pub returns-in_default-clause-none : goal.returns-in_default-clause-none
 returns-in_default-clause-none c =
@@ -26,22 +28,35 @@ returns-in_default-clause-none c =
     let board = board_of graph in
     let arcs = arcs_of c.args.up.now c.args.down.now in
     let s = c.nearest_goal.new.search in
-    let begun = one_source (length c.args.search.now.labels) c.args.x c.begin.new.self c.add_source.new.self c.begin.ensures.labels c.in_ok-add_source.ensures.labels (omega (arith, c.requires.there, c.requires.labels)) in
+    let begun = one_source (length c.args.search.now.labels) c.args.x c.begin.new.self c.add_source.new.self
+    c.begin.ensures.labels c.in_ok-add_source.ensures.labels (omega (
+      arith,
+      c.requires.there,
+      c.requires.labels,
+    )) in
     let source = (c.in_ok-goal.ensures.sources c.args.x).1 begun.0 in
     let far = rw c.in_default.is at c.in_ok-goal.ensures.far in
-    reaches-none board arcs (2 ^ 64 - 2 ^ 51) c.args.x s c.in_ok-goal.ensures.under_way source (λ f is. begun.1 f ((c.in_ok-goal.ensures.sources f).0 is))
+    reaches-none board arcs (2 ^ 64 - 2 ^ 51) c.args.x s c.in_ok-goal.ensures.under_way source
+    (λ f is. begun.1 f ((c.in_ok-goal.ensures.sources f).0 is))
     (omega arith) c.requires.graph.fpga_limit (links-inside board c.requires.graph.wires)
     (λ f goal. omega (arith, goals-inside s.goals f goal, c.in_ok-goal.ensures.under_way.labelled.marks))
-    (λ e a b links. arcs-small c.args.up.now c.args.down.now c.requires.up_small c.requires.down_small e a b) far
+    (λ e a b links. arcs-small c.args.up.now c.args.down.now c.requires.up_small c.requires.down_small e a b)
+    far
 
 pub returns-clause-reached : goal.returns-clause-reached
 returns-clause-reached c =
     let board = board_of c.args.graph.now in
     let arcs = arcs_of c.args.up.now c.args.down.now in
     let s = c.nearest_goal.new.search in
-    let begun = one_source (length c.args.search.now.labels) c.args.x c.begin.new.self c.add_source.new.self c.begin.ensures.labels c.in_ok-add_source.ensures.labels (omega (arith, c.requires.there, c.requires.labels)) in
+    let begun = one_source (length c.args.search.now.labels) c.args.x c.begin.new.self c.add_source.new.self
+    c.begin.ensures.labels c.in_ok-add_source.ensures.labels (omega (
+      arith,
+      c.requires.there,
+      c.requires.labels,
+    )) in
     let source = (c.in_ok-goal.ensures.sources c.args.x).1 begun.0 in
     let near = rw c.in-Some.is at c.in_ok-goal.ensures.found in
     let at : c.distance.result ≡ Some near.distance = c.distance.ensures ∙ ap distance_in near.label.1 in
     subst (λ (found : Option ℕ). IfSome found (HasReached board arcs c.args.x s)) (sym at)
-    (reached board arcs (2 ^ 64 - 2 ^ 51) c.args.x s c.in_ok-goal.ensures.under_way source (λ f is. begun.1 f ((c.in_ok-goal.ensures.sources f).0 is)) c.in-Some.goal near)
+    (reached board arcs (2 ^ 64 - 2 ^ 51) c.args.x s c.in_ok-goal.ensures.under_way source
+    (λ f is. begun.1 f ((c.in_ok-goal.ensures.sources f).0 is)) c.in-Some.goal near)

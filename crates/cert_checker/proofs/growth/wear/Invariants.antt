@@ -6,7 +6,8 @@ use Rattle.cert_checker.proofs.Wearing.{AreWorn}
 use Rattle.cert_checker.proofs.growth.wear.Given as goal
 
 abbrev pub invariant-loop-f : goal.invariant-loop-f
-invariant-loop-f l = AreWorn (board_of l.graph) (height_in l.search l.reach) l.near.listed l.i (arcs_of l.fn.up.items l.fn.down.items) (arcs_of l.up.items l.down.items)
+invariant-loop-f l = AreWorn (board_of l.graph) (height_in l.search l.reach) l.near.listed l.i
+    (arcs_of l.fn.up.items l.fn.down.items) (arcs_of l.up.items l.down.items)
     × Contains l.near.listed l.x
     × (length l.up.items ≡ length l.fn.up.items) × (length l.down.items ≡ length l.fn.down.items)
     × StaysListed l.fn.up.items l.fn.down.items l.fn.worn.listed l.up.items l.down.items l.worn.listed

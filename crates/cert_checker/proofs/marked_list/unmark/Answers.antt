@@ -10,11 +10,14 @@ pub loop-x-init : goal.loop-x-init
 loop-x-init c = IsUnmarking-start c.args.listed.now (marks-of c.args.marks.now.items) c.requires.marked
 
 pub loop-x-preserved : goal.loop-x-preserved
-loop-x-preserved c = IsUnmarking-more c.args.listed.now c.loop-x.x-index (marks-of c.args.marks.now.items) (marks-of c.loop-x.marks.items)
-    (marks-of (set c.loop-x.marks.items (get_or c.args.listed.now c.loop-x.x-index 0) false)) c.loop-x.invariant refl refl
+loop-x-preserved c = IsUnmarking-more c.args.listed.now c.loop-x.x-index (marks-of c.args.marks.now.items)
+    (marks-of c.loop-x.marks.items)
+    (marks-of (set c.loop-x.marks.items (get_or c.args.listed.now c.loop-x.x-index 0) false))
+    c.loop-x.invariant refl refl
 
 pub returns-clause-none : goal.returns-clause-none
-returns-clause-none c = none-unmarked c.args.listed.now c.loop-x.x-index (marks-of c.args.marks.now.items) (marks-of c.loop-x.marks.items) c.loop-x.invariant c.loop-x-test.false
+returns-clause-none c = none-unmarked c.args.listed.now c.loop-x.x-index (marks-of c.args.marks.now.items)
+    (marks-of c.loop-x.marks.items) c.loop-x.invariant c.loop-x-test.false
 
 pub returns-clause-count : goal.returns-clause-count
 returns-clause-count c = c.loop-x.invariant.size

@@ -9,7 +9,8 @@ growth-requires-clause-there c =
     let fpgas = c.args.fpgas.now in
     let rising = c.put_rising.new.rising.items in
     subst (λ (xs : List ℕ). All (λ f. f < c.args.graph.now.fpgas) xs) (sym c.as_slice-3.ensures.value)
-    (All-permutation (λ (f : ℕ). f < c.args.graph.now.fpgas) fpgas rising c.in_ok-put_rising.ensures.same c.requires.there)
+    (All-permutation (λ (f : ℕ). f < c.args.graph.now.fpgas) fpgas rising c.in_ok-put_rising.ensures.same
+    c.requires.there)
 
 pub growth-requires-clause-distinct : goal.growth-requires-clause-distinct
 growth-requires-clause-distinct c =

@@ -22,13 +22,18 @@ loop-i-preserved c =
     let fpgas = c.net.result.now in
     let last = c.grow_set.new.last in
     let grows : IsGrowth (board_of graph) wire_length last.fpgas.items last.growth =
-    subst (λ (ls : List ℕ). IsGrowth (board_of graph) (slice_index ls) last.fpgas.items last.growth) c.loop-i.invariant.3 c.in_ok-grow_set.ensures.grows in
+    subst (λ (ls : List ℕ). IsGrowth (board_of graph) (slice_index ls) last.fpgas.items last.growth)
+    c.loop-i.invariant.3 c.in_ok-grow_set.ensures.grows in
     let here_too : IsGrowth (board_of (graph_of board)) wire_length last.fpgas.items last.growth =
-    subst (λ (g : Graph). IsGrowth (board_of g) wire_length last.fpgas.items last.growth) c.in_ok-graph.ensures.same grows in
+    subst (λ (g : Graph). IsGrowth (board_of g) wire_length last.fpgas.items last.growth)
+    c.in_ok-graph.ensures.same grows in
     let wires : graph.wires ≡ board.wires = ap (λ (g : Graph). g.wires) c.in_ok-graph.ensures.same in
-    let here = net_growth-on_graph board (board_of graph) wire_length mark.net fpgas last.fpgas.items last.growth wires (sym c.net.ensures.value) c.in_ok-grow_set.ensures.rising grows in
-    let weighed = subst (λ (m : SetMark). (m.net < length weights) × (0 < slice_index weights m.net)) (sym c.index.ensures) (c.in_ok-marks.ensures.weighed i mark inside) in (
-      AreGrown-more board wire_length weights marks i c.loop-i.growths.items mark last.growth (omega (arith, weighed.0, c.requires.weights)) weighed.1
+    let here = net_growth-on_graph board (board_of graph) wire_length mark.net fpgas last.fpgas.items
+    last.growth wires (sym c.net.ensures.value) c.in_ok-grow_set.ensures.rising grows in
+    let weighed = subst (λ (m : SetMark). (m.net < length weights) × (0 < slice_index weights m.net))
+    (sym c.index.ensures) (c.in_ok-marks.ensures.weighed i mark inside) in (
+      AreGrown-more board wire_length weights marks i c.loop-i.growths.items mark last.growth
+          (omega (arith, weighed.0, c.requires.weights)) weighed.1
           (slice_get_read marks (length marks) i mark refl inside c.index.ensures) here c.loop-i.invariant.0,
       here_too,
       ap (λ (l : Lengths). l.fpgas) c.grow_set.ensures.grower ∙ c.loop-i.invariant.2,
@@ -37,7 +42,8 @@ loop-i-preserved c =
 
 pub returns : goal.returns
 returns c =
-    AreGrowths-all c.args.problem.now (slice_index c.args.lengths.now) c.args.weights.now c.in_ok-marks.marks.items c.loop-i.i c.loop-i.growths.items
+    AreGrowths-all c.args.problem.now (slice_index c.args.lengths.now) c.args.weights.now
+    c.in_ok-marks.marks.items c.loop-i.i c.loop-i.growths.items
     (omega (arith, c.loop-i-test.false)) c.in_ok-marks.ensures.whole c.loop-i.invariant.0
 
 pub loop-i-init : goal.loop-i-init
@@ -47,7 +53,8 @@ loop-i-init c =
     let weights = c.args.weights.now in
     let marks = c.in_ok-marks.marks.items in
     let none : AreGrown board wire_length weights marks 0 c.in_ok-growths.growths.items =
-    subst (AreGrown board wire_length weights marks 0) (sym (c.in_ok-growths.ensures.items_if_clones_equal (search rules)))
+    subst (AreGrown board wire_length weights marks 0)
+    (sym (c.in_ok-growths.ensures.items_if_clones_equal (search rules)))
     (AreGrown-none board wire_length weights marks c.nets.result c.nets.ensures.value) in (
       none,
       search rules,
@@ -56,20 +63,26 @@ loop-i-init c =
     )
 
 pub grow_set-requires-clause-graph : goal.grow_set-requires-clause-graph
-grow_set-requires-clause-graph c = c.loop-i.invariant.2 ∙ sym (ap (λ (g : Graph). g.fpgas) c.in_ok-graph.ensures.same)
+grow_set-requires-clause-graph c = c.loop-i.invariant.2
+    ∙ sym (ap (λ (g : Graph). g.fpgas) c.in_ok-graph.ensures.same)
 
 pub grow_set-requires-clause-lengths : goal.grow_set-requires-clause-lengths
-grow_set-requires-clause-lengths c = ap length c.loop-i.invariant.3 ∙ c.requires.lengths ∙ sym (ap (λ (g : Graph). length g.wires) c.in_ok-graph.ensures.same)
+grow_set-requires-clause-lengths c = ap length c.loop-i.invariant.3 ∙ c.requires.lengths
+    ∙ sym (ap (λ (g : Graph). length g.wires) c.in_ok-graph.ensures.same)
 
 pub grow_set-requires-clause-last : goal.grow_set-requires-clause-last
 grow_set-requires-clause-last c =
     let last = c.loop-i.last in
-    subst (λ (ls : List ℕ). IsGrowth (board_of c.in_ok-graph.graph) (slice_index ls) last.fpgas.items last.growth) (sym c.loop-i.invariant.3)
-    (subst (λ (g : Graph). IsGrowth (board_of g) (slice_index c.args.lengths.now) last.fpgas.items last.growth) (sym c.in_ok-graph.ensures.same) c.loop-i.invariant.1)
+    subst (λ (ls : List ℕ). IsGrowth (board_of c.in_ok-graph.graph) (slice_index ls) last.fpgas.items
+    last.growth) (sym c.loop-i.invariant.3)
+    (subst (λ (g : Graph). IsGrowth (board_of g) (slice_index c.args.lengths.now) last.fpgas.items
+    last.growth) (sym c.in_ok-graph.ensures.same) c.loop-i.invariant.1)
 
 pub index_mut-requires : goal.index_mut-requires
 index_mut-requires c =
     let inside : c.loop-i.i < length c.in_ok-marks.marks.items = omega (arith, c.loop-i-test.true) in
     let mark = c.index.result.now in
-    let there : mark.net < length c.args.weights.now = subst (λ (m : SetMark). m.net < length c.args.weights.now) (sym c.index.ensures) (c.in_ok-marks.ensures.weighed c.loop-i.i mark inside).0 in
+    let there : mark.net < length c.args.weights.now =
+    subst (λ (m : SetMark). m.net < length c.args.weights.now) (sym c.index.ensures)
+    (c.in_ok-marks.ensures.weighed c.loop-i.i mark inside).0 in
     omega (arith, there, c.requires.weights, c.loop-i.invariant.0.whole)

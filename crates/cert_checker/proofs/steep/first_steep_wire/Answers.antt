@@ -7,7 +7,9 @@ use Rattle.cert_checker.proofs.steep.first_steep_wire.Goals as goal
 pub loop-e-preserved : goal.loop-e-preserved
 loop-e-preserved c =
     below_more (λ d. ¬ IsSteep c.args.problem.now c.args.cert.now c.args.p d) c.loop-e.e c.loop-e.invariant
-    (not_steep_here c.args.problem.now c.args.cert.now c.args.p c.loop-e.e c.wire.result c.potential-potential.result.now c.length.result c.wire.ensures.there c.potential-potential.ensures.value c.length.ensures.value
+    (not_steep_here c.args.problem.now c.args.cert.now c.args.p c.loop-e.e c.wire.result
+    c.potential-potential.result.now c.length.result c.wire.ensures.there
+    c.potential-potential.ensures.value c.length.ensures.value
     (λ along. both_ways c.is_steep.result c.if-is_steep.false (c.is_steep.ensures.1 along)))
 
 pub returns : goal.returns

@@ -30,7 +30,8 @@ loop-done-init g c = record {
 }
 
 pub feed_piece-requires-clause-is_open : goal.feed_piece-requires-clause-is_open
-feed_piece-requires-clause-is_open g c = still_open_input _ _ _ _ c.loop-done.invariant.loads.seen_is ∙ c.requires.is_open
+feed_piece-requires-clause-is_open g c = still_open_input _ _ _ _ c.loop-done.invariant.loads.seen_is
+    ∙ c.requires.is_open
 
 pub returns-in_err-count-clause-err : goal.returns-in_err-count-clause-err
 returns-in_err-count-clause-err g c =
@@ -40,19 +41,31 @@ returns-in_err-count-clause-err g c =
 pub returns-in_err-count-clause-own : goal.returns-in_err-count-clause-own
 returns-in_err-count-clause-own g c =
     let p = err_from_is_err_and c.from_residual-in_err-count.result c.from_residual-in_err-count.ensures.1 in
-    rw (p.1, p.2) (read_fault_later g.D.Desk.counts _ _ _ _ _ c.loop-done.invariant.uncounted c.in_err-count.ensures.own)
+    rw (p.1, p.2) (read_fault_later g.D.Desk.counts _ _ _ _ _ c.loop-done.invariant.uncounted
+    c.in_err-count.ensures.own)
 
 pub loop-done-preserved : goal.loop-done-preserved
 loop-done-preserved g c =
     let more = c.in_ok-count.ensures.at c.loop-done.invariant.text c.loop-done.invariant.stands in
     record {
-      in_range = omega (arith, c.loop-done.invariant.in_range, c.in_ok-count.ensures.within, length-take c.min-wanted.result c.deref_mut.result.now);
+      in_range = omega (
+        arith,
+        c.loop-done.invariant.in_range,
+        c.in_ok-count.ensures.within,
+        length-take c.min-wanted.result c.deref_mut.result.now,
+      );
       buffer_len = c.loop-done.invariant.buffer_len;
       count = omega (arith, c.loop-done.invariant.count, c.in_ok-count.ensures.fed);
       text = c.loop-done.invariant.text ++ more.piece;
       stands = more.stands;
-      many = omega (arith, c.loop-done.invariant.many, more.many, length-append c.loop-done.invariant.text more.piece);
-      loads = loads_more _ _ _ _ _ _ _ _ _ c.loop-done.invariant.loads refl c.in_ok-count.ensures.ok (λ rest is. ap (λ piece. c.loop-done.invariant.text ++ piece) (more.next rest is));
+      many = omega (
+        arith,
+        c.loop-done.invariant.many,
+        more.many,
+        length-append c.loop-done.invariant.text more.piece,
+      );
+      loads = loads_more _ _ _ _ _ _ _ _ _ c.loop-done.invariant.loads refl c.in_ok-count.ensures.ok
+          (λ rest is. ap (λ piece. c.loop-done.invariant.text ++ piece) (more.next rest is));
       kind = c.feed_piece.ensures.kind ∙ c.loop-done.invariant.kind;
       limit = c.feed_piece.ensures.limit ∙ c.loop-done.invariant.limit;
       uncounted = c.in_ok-count.ensures.own ∙ c.loop-done.invariant.uncounted;
@@ -64,14 +77,16 @@ record AllFed (g : _) (c : goal.After-drop-buffer-2 g) : Type 0 where
   text : Bytes
   stands : g.R.TextReader.is_at c.loop-done-test.reader text
   short : length text ≤ g.R.TextReader.limit c.args.reader.now + 1
-  loads : Loads c.args.slot (g.D.Desk.seen c.args.desk.now) (g.D.Desk.seen c.loop-done-test.desk) (g.R.TextReader.limit c.args.reader.now + 1) text
+  loads : Loads c.args.slot (g.D.Desk.seen c.args.desk.now) (g.D.Desk.seen c.loop-done-test.desk)
+      (g.R.TextReader.limit c.args.reader.now + 1) text
 
 -- after the loop the reader was fed all that was asked for
 all-fed : (g : _) (c : goal.After-drop-buffer-2 g) → AllFed g c
 all-fed g c = elim c.loop-done-test.branch [
   | else-loop-done-test w ↦ record {
     text = c.loop-done.invariant.text;
-    stands = subst (λ reader. g.R.TextReader.is_at reader c.loop-done.invariant.text) (sym w.reader-is) c.loop-done.invariant.stands;
+    stands = subst (λ reader. g.R.TextReader.is_at reader c.loop-done.invariant.text)
+        (sym w.reader-is) c.loop-done.invariant.stands;
     short = omega (arith, c.loop-done.invariant.in_range, c.loop-done.invariant.many, c.limit.ensures);
     loads = loads_same _ _ _ _ _ _ _ _ c.loop-done.invariant.loads (ap g.D.Desk.seen w.desk-is)
         (omega (arith, c.loop-done.invariant.in_range, w.loop-done-test.false, c.limit.ensures)) refl;
@@ -80,12 +95,24 @@ all-fed g c = elim c.loop-done-test.branch [
       let more = w.in_ok-count.ensures.at c.loop-done.invariant.text c.loop-done.invariant.stands in
       record {
         text = c.loop-done.invariant.text ++ more.piece;
-        stands = subst (λ reader. g.R.TextReader.is_at reader (c.loop-done.invariant.text ++ more.piece)) (sym w.reader-is) more.stands;
-        short = omega (arith, c.loop-done.invariant.in_range, c.loop-done.invariant.many, c.limit.ensures, more.many, w.if-count-eq0.true, length-append c.loop-done.invariant.text more.piece);
+        stands = subst (λ reader. g.R.TextReader.is_at reader (c.loop-done.invariant.text ++ more.piece))
+            (sym w.reader-is) more.stands;
+        short = omega (
+          arith,
+          c.loop-done.invariant.in_range,
+          c.loop-done.invariant.many,
+          c.limit.ensures,
+          more.many,
+          w.if-count-eq0.true,
+          length-append c.loop-done.invariant.text more.piece,
+        );
         loads = loads_same _ _ _ _ _ _ _ _
             (loads_more _ _ _ _ _ _ _ _ _
-            (loads_end _ _ _ _ (g.R.TextReader.limit c.args.reader.now + 1) _ c.loop-done.invariant.loads (omega (arith, c.loop-done.invariant.in_range, c.limit.ensures)) (w.in_ok-count.ensures.end w.if-count-eq0.true))
-            refl w.in_ok-count.ensures.ok (λ rest is. ap (λ piece. c.loop-done.invariant.text ++ piece) (more.next rest is)))
+            (loads_end _ _ _ _ (g.R.TextReader.limit c.args.reader.now + 1) _ c.loop-done.invariant.loads
+            (omega (arith, c.loop-done.invariant.in_range, c.limit.ensures))
+            (w.in_ok-count.ensures.end w.if-count-eq0.true))
+            refl w.in_ok-count.ensures.ok (λ rest is. ap (λ piece. c.loop-done.invariant.text ++ piece)
+            (more.next rest is)))
             (ap g.D.Desk.seen w.desk-is) (omega (arith, w.if-count-eq0.true)) refl;
       }
 ]
@@ -101,5 +128,6 @@ returns-clause-fed g c =
 pub returns-clause-own : goal.returns-clause-own
 returns-clause-own g c = elim c.loop-done-test.branch [
   | else-loop-done-test w ↦ ap g.D.Desk.counts w.desk-is ∙ c.loop-done.invariant.uncounted
-  | then-loop-done-test+in_ok-count+then-count-eq0 w ↦ ap g.D.Desk.counts w.desk-is ∙ w.in_ok-count.ensures.own ∙ c.loop-done.invariant.uncounted
+  | then-loop-done-test+in_ok-count+then-count-eq0 w ↦ ap g.D.Desk.counts w.desk-is
+      ∙ w.in_ok-count.ensures.own ∙ c.loop-done.invariant.uncounted
 ]

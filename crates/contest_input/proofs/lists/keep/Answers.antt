@@ -10,5 +10,6 @@ returns-then-index-number c = λ whole so_far.
     let full : c.args.room ≤ length kept = omega (arith, c.if-len-room.false, c.len.ensures) in
     let less : get_or kept (length kept - 1) 0 < c.args.number = search (rules, common_steps) in
     let count : length kept ≡ c.len-last.result = search (rules, common_steps) in
-    subst (λ (n : ℕ). IsKeptOf c.args.room (set kept (n - 1) c.args.number) (whole ++ c.args.number ∷ [])) count
+    subst (λ (n : ℕ). IsKeptOf c.args.room (set kept (n - 1) c.args.number) (whole ++ c.args.number ∷ []))
+    count
     (kept-larger c.args.room c.args.number kept whole c.requires full less so_far)

@@ -5,4 +5,5 @@ use Rattle.text_writer.specs.Writing.{Brings}
 use Rattle.contest_input.proofs.write.put_groups.Given as goal
 
 abbrev pub invariant-loop-g : goal.invariant-loop-g
-invariant-loop-g g l = Brings g.D.Desk.seen g.D.Desk.counts g.D.Desk.steady l.slot (l.fn.pending ++ flat_map line_text (take l.g l.problem.groups)) l.fn.desk l.pending l.desk
+invariant-loop-g g l = Brings g.D.Desk.seen g.D.Desk.counts g.D.Desk.steady l.slot
+    (l.fn.pending ++ flat_map line_text (take l.g l.problem.groups)) l.fn.desk l.pending l.desk

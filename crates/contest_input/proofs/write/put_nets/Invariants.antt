@@ -5,4 +5,5 @@ use Rattle.text_writer.specs.Writing.{Brings}
 use Rattle.contest_input.proofs.write.put_nets.Given as goal
 
 abbrev pub invariant-loop-n : goal.invariant-loop-n
-invariant-loop-n g l = Brings g.D.Desk.seen g.D.Desk.counts g.D.Desk.steady l.slot (l.fn.pending ++ flat_map line_text (take l.n l.problem.nets)) l.fn.desk l.pending l.desk
+invariant-loop-n g l = Brings g.D.Desk.seen g.D.Desk.counts g.D.Desk.steady l.slot
+    (l.fn.pending ++ flat_map line_text (take l.n l.problem.nets)) l.fn.desk l.pending l.desk

@@ -10,4 +10,6 @@ loop-number-preserved c =
     let here : ℕ = get_or c.loop-number.most c.loop-number.number-index 0 in
     let there : c.loop-number.number-index < length c.loop-number.most = omega arith in
     ap (λ (x : ℕ). set c.loop-number.most c.loop-number.number-index x) c.least_claim_for.ensures
-    ∙ map_over_more (λ number. max (div_ceil number 1024) 1) c.args.most.now c.loop-number.most c.loop-number.number-index here (omega arith) c.loop-number.invariant (get_or_default c.loop-number.most c.loop-number.number-index 0 here there)
+    ∙ map_over_more (λ number. max (div_ceil number 1024) 1) c.args.most.now c.loop-number.most
+    c.loop-number.number-index here (omega arith) c.loop-number.invariant
+    (get_or_default c.loop-number.most c.loop-number.number-index 0 here there)

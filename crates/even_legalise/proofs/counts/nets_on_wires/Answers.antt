@@ -11,5 +11,6 @@ pub add_net-requires-clause-room : goal.add_net-requires-clause-room
 add_net-requires-clause-room c =
     let small : All (λ count. count ≤ most_nets) c.deref_mut.result.now =
     subst (λ counts. All (λ count. count ≤ most_nets) counts) (sym c.deref_mut.ensures.value)
-    (counts_small c.args.trees.now c.loop-n.n c.args.wires c.loop-n.counts.items c.nets-n-end.ensures.rising c.loop-n.invariant) in
+    (counts_small c.args.trees.now c.loop-n.n c.args.wires c.loop-n.counts.items c.nets-n-end.ensures.rising
+    c.loop-n.invariant) in
     λ k d inside. omega (arith, small k d inside)

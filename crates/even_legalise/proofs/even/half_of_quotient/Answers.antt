@@ -11,5 +11,6 @@ returns-clause-above c = half-above c.args.claims c.args.part c.requires.some
 
 pub returns-clause-small : goal.returns-clause-small
 returns-clause-small c =
-    let twice : 2 * (c.args.claims / c.args.part / 2) ≤ 2 ^ 30 = le_of_mul-le-mul_right (omega (arith, half_within c.args.claims c.args.part)) c.requires.some in
+    let twice : 2 * (c.args.claims / c.args.part / 2) ≤ 2 ^ 30 =
+    le_of_mul-le-mul_right (omega (arith, half_within c.args.claims c.args.part)) c.requires.some in
     omega arith

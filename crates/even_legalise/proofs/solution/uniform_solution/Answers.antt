@@ -9,18 +9,25 @@ use Rattle.even_legalise.proofs.solution.uniform_solution.Goals as goal
 
 pub returns-clause-legal : goal.returns-clause-legal
 returns-clause-legal c =
-    IfOk-weaker c.with_uniform_ratios.result (λ s. s ≡ uniform_routing c.args.problem.now c.args.trees.now) (λ s. IsLegal c.args.problem.now s)
-    (λ s is. subst (λ r. IsLegal c.args.problem.now r) (sym is) (uniform_is_legal c.args.problem.now c.args.trees.now c.requires.trees_for c.in_ok-counts.ensures.rising c.requires.joined))
+    IfOk-weaker c.with_uniform_ratios.result (λ s. s ≡ uniform_routing c.args.problem.now c.args.trees.now)
+    (λ s. IsLegal c.args.problem.now s)
+    (λ s is. subst (λ r. IsLegal c.args.problem.now r) (sym is)
+    (uniform_is_legal c.args.problem.now c.args.trees.now c.requires.trees_for
+    c.in_ok-counts.ensures.rising c.requires.joined))
     c.with_uniform_ratios.ensures
 
 pub returns-clause-small : goal.returns-clause-small
 returns-clause-small c =
-    IfOk-weaker c.with_uniform_ratios.result (λ s. s ≡ uniform_routing c.args.problem.now c.args.trees.now) (λ s. All (λ uses. All (λ ratio. ratio < 2 ^ 32) (ratios_of uses)) s)
-    (λ s is. subst (λ r. All (λ uses. All (λ ratio. ratio < 2 ^ 32) (ratios_of uses)) r) (sym is) (uniform_ratios_small c.args.problem.now c.args.trees.now c.in_ok-counts.ensures.rising))
+    IfOk-weaker c.with_uniform_ratios.result (λ s. s ≡ uniform_routing c.args.problem.now c.args.trees.now)
+    (λ s. All (λ uses. All (λ ratio. ratio < 2 ^ 32) (ratios_of uses)) s)
+    (λ s is. subst (λ r. All (λ uses. All (λ ratio. ratio < 2 ^ 32) (ratios_of uses)) r) (sym is)
+    (uniform_ratios_small c.args.problem.now c.args.trees.now c.in_ok-counts.ensures.rising))
     c.with_uniform_ratios.ensures
 
 pub returns-clause-rising : goal.returns-clause-rising
 returns-clause-rising c =
-    IfOk-weaker c.with_uniform_ratios.result (λ s. s ≡ uniform_routing c.args.problem.now c.args.trees.now) HasRisingWires
-    (λ s is. subst HasRisingWires (sym is) (uniform_wires_rise c.args.problem.now c.args.trees.now c.in_ok-counts.ensures.rising))
+    IfOk-weaker c.with_uniform_ratios.result (λ s. s ≡ uniform_routing c.args.problem.now c.args.trees.now)
+    HasRisingWires
+    (λ s is. subst HasRisingWires (sym is)
+    (uniform_wires_rise c.args.problem.now c.args.trees.now c.in_ok-counts.ensures.rising))
     c.with_uniform_ratios.ensures

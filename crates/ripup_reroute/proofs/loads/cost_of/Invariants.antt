@@ -4,4 +4,5 @@ use Rattle.tdm_problem.specs.Sums.{sum_below}
 use Rattle.ripup_reroute.proofs.loads.cost_of.Given as goal
 
 abbrev pub invariant-loop-e : goal.invariant-loop-e
-invariant-loop-e l = (l.cost ≡ sum_below l.e (λ d. slice_index l.loads d * slice_index l.loads d)) × (l.cost ≤ l.e * 2 ^ 100)
+invariant-loop-e l = (l.cost ≡ sum_below l.e (λ d. slice_index l.loads d * slice_index l.loads d))
+    × (l.cost ≤ l.e * 2 ^ 100)

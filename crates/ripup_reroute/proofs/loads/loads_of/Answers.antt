@@ -15,6 +15,7 @@ add_number-requires-clause-room c e =
       below,
       c.requires.trees.nets,
       c.nets-n-end.ensures.rising.net_limit,
-      before-small c.args.problem.now c.args.trees.now c.args.numbers.now c.loop-n.n c.loop-n.loads.items c.requires.numbers (omega (arith, below)) c.loop-n.invariant e,
+      before-small c.args.problem.now c.args.trees.now c.args.numbers.now c.loop-n.n c.loop-n.loads.items
+          c.requires.numbers (omega (arith, below)) c.loop-n.invariant e,
       number-small c.args.problem.now c.args.numbers.now c.loop-n.n c.requires.numbers below,
     )

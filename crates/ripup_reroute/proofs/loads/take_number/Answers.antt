@@ -12,7 +12,8 @@ overflow_sub-index_mut c =
       arith,
       c.index_mut.ensures.value,
       get_or_default c.loop-e.loads.items x 0 c.index_mut.result.now inside,
-      taken-enough c.args.number c.args.wires.now c.loop-e.e-index c.args.loads.now.items c.loop-e.loads.items c.requires.distinct c.loop-e-test.true c.requires.loaded c.loop-e.invariant,
+      taken-enough c.args.number c.args.wires.now c.loop-e.e-index c.args.loads.now.items c.loop-e.loads.items
+          c.requires.distinct c.loop-e-test.true c.requires.loaded c.loop-e.invariant,
     )
 
 pub loop-e-preserved : goal.loop-e-preserved
@@ -20,11 +21,13 @@ loop-e-preserved c =
     let x : ℕ = get_or c.args.wires.now c.loop-e.e-index 0 in
     let inside : x < length c.loop-e.loads.items =
     omega (arith, c.loop-e.invariant.count, c.requires.there c.loop-e.e-index 0 c.loop-e-test.true) in
-    IsAdded-less c.args.number c.args.wires.now c.loop-e.e-index _ c.requires.distinct c.loop-e-test.true c.args.loads.now.items c.loop-e.loads.items inside
+    IsAdded-less c.args.number c.args.wires.now c.loop-e.e-index _ c.requires.distinct c.loop-e-test.true
+    c.args.loads.now.items c.loop-e.loads.items inside
     (omega (
       arith,
       c.index_mut.ensures.value,
       get_or_default c.loop-e.loads.items x 0 c.index_mut.result.now inside,
-      taken-enough c.args.number c.args.wires.now c.loop-e.e-index c.args.loads.now.items c.loop-e.loads.items c.requires.distinct c.loop-e-test.true c.requires.loaded c.loop-e.invariant,
+      taken-enough c.args.number c.args.wires.now c.loop-e.e-index c.args.loads.now.items c.loop-e.loads.items
+          c.requires.distinct c.loop-e-test.true c.requires.loaded c.loop-e.invariant,
     ))
     c.loop-e.invariant

@@ -8,11 +8,13 @@ use Rattle.ripup_reroute.proofs.passes.pass.Goals as goal
 pub begin_pass-requires-clause-light : goal.begin_pass-requires-clause-light
 begin_pass-requires-clause-light c =
     subst (All (λ x. x ≤ 2 ^ 50)) (sym c.deref.ensures.value)
-    (loads-small c.args.problem.now c.args.trees.now c.args.numbers.now c.args.loads.now.items c.requires.board c.requires.numbers c.requires.minimal.for_board.nets c.requires.loads)
+    (loads-small c.args.problem.now c.args.trees.now c.args.numbers.now c.args.loads.now.items
+    c.requires.board c.requires.numbers c.requires.minimal.for_board.nets c.requires.loads)
 
 pub loop-n-preserved : goal.loop-n-preserved
 loop-n-preserved c = record {
-  passing = passing-more c.args.problem.now c.args.numbers.now c.args.picks.now c.loop-n.n-index c.args.trees.now c.loop-n.trees c.turn.new.trees c.loop-n.moved c.in_ok-replaced.replaced
+  passing = passing-more c.args.problem.now c.args.numbers.now c.args.picks.now c.loop-n.n-index
+      c.args.trees.now c.loop-n.trees c.turn.new.trees c.loop-n.moved c.in_ok-replaced.replaced
       c.loop-n-test.true c.loop-n.invariant.passing
       (record {
         minimal = c.turn.ensures.minimal;
@@ -29,4 +31,5 @@ loop-n-preserved c = record {
 pub returns-clause-settled : goal.returns-clause-settled
 returns-clause-settled c none n picked =
     c.loop-n.invariant.passing.settled none n
-    (subst (λ (ns : List ℕ). Contains ns n) (sym (take_all c.loop-n.n-index c.args.picks.now (omega (arith, c.loop-n-test.false)))) picked)
+    (subst (λ (ns : List ℕ). Contains ns n)
+    (sym (take_all c.loop-n.n-index c.args.picks.now (omega (arith, c.loop-n-test.false)))) picked)

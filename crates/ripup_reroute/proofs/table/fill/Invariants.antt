@@ -10,5 +10,6 @@ invariant-loop-root l = record {
   small : All (λ d. d ≤ 2 ^ 51) l.distances.items;
   labels : length l.search.labels ≡ length l.fn.search.labels;
   goals : l.search.goals ≡ l.fn.search.goals;
-  rows : AreRowsBelow (board_of l.graph) (λ e. 2 * slice_index l.lengths.loads.now e + l.lengths.own) l.root l.distances.items;
+  rows : AreRowsBelow (board_of l.graph) (λ e. 2 * slice_index l.lengths.loads.now e + l.lengths.own) l.root
+      l.distances.items;
 }

@@ -9,5 +9,6 @@ invariant-loop-f l = record {
   size : length l.distances.items ≡ length l.fn.distances.items;
   small : All (λ d. d ≤ 2 ^ 51) l.distances.items;
   before : (i : ℕ) → i < l.place → slice_index l.distances.items i ≡ slice_index l.fn.distances.items i;
-  row : (k : ℕ) → k < l.f → slice_index l.distances.items (l.place + k) ≡ row_entry (distance_in (label_at l.search k));
+  row : (k : ℕ) → k < l.f → slice_index l.distances.items (l.place + k)
+      ≡ row_entry (distance_in (label_at l.search k));
 }

@@ -8,7 +8,8 @@ pub returns-then-cap-sum-clause-within : goal.returns-then-cap-sum-clause-within
 returns-then-cap-sum-clause-within c =
     omega (
       arith,
-      sum_by_more_le (λ t. bound_at c.args.table.now c.args.scale t (slice_index c.args.terminals.now 0)) c.args.terminals.now c.loop-t.t-index 0 c.loop-t-test.true,
+      sum_by_more_le (λ t. bound_at c.args.table.now c.args.scale t (slice_index c.args.terminals.now 0))
+          c.args.terminals.now c.loop-t.t-index 0 c.loop-t-test.true,
       c.loop-t.invariant.sum,
       c.bound-bound.ensures.value,
       c.if-cap-sum.true,

@@ -5,6 +5,7 @@ use Rattle.ripup_reroute.proofs.walks.bound_sum.Given as goal
 
 abbrev pub invariant-loop-t : goal.invariant-loop-t
 invariant-loop-t l = record {
-  sum : l.sum ≡ sum_by (λ t. bound_at l.table l.scale t (slice_index l.terminals 0)) (take l.t-index l.terminals);
+  sum : l.sum ≡ sum_by (λ t. bound_at l.table l.scale t (slice_index l.terminals 0))
+      (take l.t-index l.terminals);
   capped : l.sum ≤ l.cap;
 }

@@ -5,7 +5,8 @@ use Rattle.shortest_forest.proofs.breadth_first.distances_from.Given as goal
 
 abbrev pub invariant-loop-head : goal.invariant-loop-head
 invariant-loop-head l =
-    IsSearch (board_of l.graph) l.distances.items l.queue.items l.head × (slice_index l.queue.items 0 ≡ l.source)
+    IsSearch (board_of l.graph) l.distances.items l.queue.items l.head
+    × (slice_index l.queue.items 0 ≡ l.source)
 
 abbrev pub decreases-loop-head : goal.decreases-loop-head
 decreases-loop-head l = l.graph.fpgas - l.head

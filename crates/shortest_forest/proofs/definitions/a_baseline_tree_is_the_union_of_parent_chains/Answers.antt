@@ -18,20 +18,39 @@ arms-rise (suc (suc k)) there = absurd (omega (arith, there))
 
 chain-of : (t : ℕ) → Contains (1 ∷ 2 ∷ 3 ∷ []) t → (es : List ℕ) × IsParentChain star 1 t es 1
 chain-of t (zero, there, is) = ([], sym is)
-chain-of t (suc zero, there, is) = (1 ∷ 0 ∷ [], subst (λ t. IsParentChain star 1 t (1 ∷ 0 ∷ []) 1) is (end-chain 1 (omega arith) (omega arith)))
-chain-of t (suc (suc zero), there, is) = (2 ∷ 0 ∷ [], subst (λ t. IsParentChain star 1 t (2 ∷ 0 ∷ []) 1) is (end-chain 2 (omega arith) (omega arith)))
+chain-of t (suc zero, there, is) = (
+  1 ∷ 0 ∷ [],
+  subst (λ t. IsParentChain star 1 t (1 ∷ 0 ∷ []) 1) is
+      (end-chain 1 (omega arith) (omega arith)),
+)
+chain-of t (suc (suc zero), there, is) = (
+  2 ∷ 0 ∷ [],
+  subst (λ t. IsParentChain star 1 t (2 ∷ 0 ∷ []) 1) is
+      (end-chain 2 (omega arith) (omega arith)),
+)
 chain-of t (suc (suc (suc k)), there, is) = absurd (omega (arith, there))
 
 arm-on : (e : ℕ) → Contains (0 ∷ 1 ∷ 2 ∷ []) e → IsOnChain star 1 (1 ∷ 2 ∷ 3 ∷ []) e
-arm-on e (zero, there, is) = (2, (1, omega arith, refl), (1 ∷ 0 ∷ [], end-chain 1 (omega arith) (omega arith), (1, omega arith, is)))
-arm-on e (suc zero, there, is) = (2, (1, omega arith, refl), (1 ∷ 0 ∷ [], end-chain 1 (omega arith) (omega arith), (0, omega arith, is)))
-arm-on e (suc (suc zero), there, is) = (3, (2, omega arith, refl), (2 ∷ 0 ∷ [], end-chain 2 (omega arith) (omega arith), (0, omega arith, is)))
+arm-on e (zero, there, is) = (
+  2,
+  (1, omega arith, refl),
+  (
+    1 ∷ 0 ∷ [],
+    end-chain 1 (omega arith) (omega arith),
+    (1, omega arith, is),
+  ),
+)
+arm-on e (suc zero, there, is) =
+    (2, (1, omega arith, refl), (1 ∷ 0 ∷ [], end-chain 1 (omega arith) (omega arith), (0, omega arith, is)))
+arm-on e (suc (suc zero), there, is) =
+    (3, (2, omega arith, refl), (2 ∷ 0 ∷ [], end-chain 2 (omega arith) (omega arith), (0, omega arith, is)))
 arm-on e (suc (suc (suc k)), there, is) = absurd (omega (arith, there))
 
 -- a wire of a chain is one of the arms
 on-arms : (v e : ℕ) (es : List ℕ) → IsParentChain star 1 v es 1 → Contains es e → e < 3
 on-arms v e [] chain there = absurd (omega (arith, there.1))
-on-arms v e (d ∷ es) chain (zero, there, is) = omega (arith, is, AnyWire-from_links star d v chain.0 chain.1.links)
+on-arms v e (d ∷ es) chain (zero, there, is) =
+    omega (arith, is, AnyWire-from_links star d v chain.0 chain.1.links)
 on-arms v e (d ∷ es) chain (suc k, there, is) = on-arms chain.0 e es chain.2 (k, omega (arith, there), is)
 
 is-arm : (e : ℕ) → e < 3 → Contains (0 ∷ 1 ∷ 2 ∷ []) e
@@ -49,7 +68,11 @@ returns-clause-star c = record {
 
 pub returns-clause-spare : goal.returns-clause-spare
 returns-clause-spare c tree =
-    (base-tree-minimal star 1 (1 ∷ 2 ∷ []) (0 ∷ 1 ∷ 2 ∷ []) (0, omega arith, refl) tree).needs 2 (2, omega arith, refl) two-ends-joined
+    (base-tree-minimal star 1 (1 ∷ 2 ∷ []) (0 ∷ 1 ∷ 2 ∷ []) (0, omega arith, refl) tree).needs 2 (
+      2,
+      omega arith,
+      refl,
+    ) two-ends-joined
 
 -- ---- the board in two parts
 
@@ -59,4 +82,5 @@ no-chain [] chain = omega (arith, chain)
 no-chain (e ∷ es) chain = let walk = chain.1.nearer.2.walk in no-walk walk.0 walk.1
 
 pub returns-clause-split : goal.returns-clause-split
-returns-clause-split c = λ wires tree. let chain = tree.reached 2 (1, omega arith, refl) in no-chain chain.0 chain.1
+returns-clause-split c = λ wires tree. let chain = tree.reached 2 (1, omega arith, refl) in
+    no-chain chain.0 chain.1

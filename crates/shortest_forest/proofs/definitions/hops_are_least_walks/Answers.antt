@@ -7,7 +7,8 @@ use Rattle.shortest_forest.specs.Reach.{HasNoWalk}
 use Rattle.shortest_forest.proofs.SampleParents.{source-hops, middle-hops, no-walk}
 use Rattle.shortest_forest.proofs.definitions.hops_are_least_walks.Goals as goal
 
-hops-of : (f : ℕ) → f < 4 → MatchOption (slice_index_or (Some 1 ∷ Some 0 ∷ Some 2 ∷ Some 2 ∷ []) f None) (HasNoWalk star 1 f) (IsHopCount star 1 f)
+hops-of : (f : ℕ) → f < 4 → MatchOption (slice_index_or (Some 1 ∷ Some 0 ∷ Some 2 ∷ Some 2 ∷ []) f None)
+    (HasNoWalk star 1 f) (IsHopCount star 1 f)
 hops-of zero there = middle-hops
 hops-of (suc zero) there = source-hops
 hops-of (suc (suc zero)) there = end-hops 1 (omega arith) (omega arith)

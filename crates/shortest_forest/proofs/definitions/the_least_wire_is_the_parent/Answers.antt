@@ -18,7 +18,11 @@ away (e ∷ es) walk = one-hop e es
 
 other-hops : IsHopCount doubled 0 1 1
 other-hops = record {
-  walk = (0 ∷ [], (omega arith, (1, record { wire = wire 0 1; is = refl; ends = inl (refl, refl) }, refl)), refl);
+  walk = (
+    0 ∷ [],
+    (omega arith, (1, record { wire = wire 0 1; is = refl; ends = inl (refl, refl) }, refl)),
+    refl,
+  );
   least = away;
 }
 

@@ -7,4 +7,6 @@ use Rattle.shortest_forest.proofs.hop_forest.parents_of.Given as goal
 abbrev pub invariant-loop-f : goal.invariant-loop-f
 invariant-loop-f l =
     (length l.parents.items ≡ l.f)
-    × ((f : ℕ) → f < l.f → MatchOption (slice_index_or l.parents.items f None) ((e d : ℕ) → ¬ LeadsNearer (board_of l.graph) l.distances f e d) (λ e. IsFirstNearer (board_of l.graph) l.distances f e))
+    × ((f : ℕ) → f < l.f → MatchOption (slice_index_or l.parents.items f None) ((e d : ℕ)
+    → ¬ LeadsNearer (board_of l.graph) l.distances f e d)
+    (λ e. IsFirstNearer (board_of l.graph) l.distances f e))

@@ -8,4 +8,5 @@ use Rattle.shortest_forest.proofs.stamped.unknown_labels.Goals as goal
 pub returns-clause-none : goal.returns-clause-none
 returns-clause-none c =
     let l : Stamped = record { distance = 0; wire = None; stamp = 0 } in
-    ap (map (label_of 1)) (c.in_ok-labels.ensures.items_if_clones_equal (search rules)) ∙ all_same (label_of 1) l None refl c.args.fpgas
+    ap (map (label_of 1)) (c.in_ok-labels.ensures.items_if_clones_equal (search rules))
+    ∙ all_same (label_of 1) l None refl c.args.fpgas

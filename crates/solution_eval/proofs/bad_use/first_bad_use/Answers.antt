@@ -7,5 +7,6 @@ use Rattle.solution_eval.proofs.bad_use.first_bad_use.Goals as goal
 
 pub loop-n-preserved : goal.loop-n-preserved
 loop-n-preserved c =
-    let here : HasEvenRatios c.args.solution.now c.loop-n.n = subst (λ uses. All IsEvenRatio (ratios_of uses)) (sym c.uses.ensures.value) c.in_default.ensures in
+    let here : HasEvenRatios c.args.solution.now c.loop-n.n =
+    subst (λ uses. All IsEvenRatio (ratios_of uses)) (sym c.uses.ensures.value) c.in_default.ensures in
     below_more (HasEvenRatios c.args.solution.now) c.loop-n.n c.loop-n.invariant here

@@ -16,7 +16,8 @@ returns-clause-not_joined c = record {
   there = omega arith;
   without = λ joins.
       let walk = joins 0 1 (0, omega arith, refl) (1, omega arith, refl) in
-      let stays = walk-stays pair (Contains []) (λ x. x ≡ 0) (λ e a b there links here. absurd (omega (arith, there.1))) 0 walk.0 1 walk.1 refl in
+      let stays = walk-stays pair (Contains []) (λ x. x ≡ 0)
+      (λ e a b there links here. absurd (omega (arith, there.1))) 0 walk.0 1 walk.1 refl in
       omega (arith, stays);
   before = λ k below. absurd (omega (arith, below));
 }
@@ -24,7 +25,11 @@ returns-clause-not_joined c = record {
 -- ---- one net on a wire
 
 one-joined : (ratio : ℕ) → AllBelow (IsJoined pair (on_wire_0 (ratio ∷ []))) 1
-one-joined ratio zero there = pair-joined pair (Contains (0 ∷ [])) 0 (0, omega arith, refl) (record { wire = wire 0 1; is = refl; ends = inl (refl, refl) })
+one-joined ratio zero there = pair-joined pair (Contains (0 ∷ [])) 0 (
+  0,
+  omega arith,
+  refl,
+) (record { wire = wire 0 1; is = refl; ends = inl (refl, refl) })
 one-joined ratio (suc n) there = absurd (omega (arith, there))
 
 one-bad : (ratio : ℕ) → ¬ IsEvenRatio ratio → IsFirstBadUse (on_wire_0 (ratio ∷ [])) 0 (use_at 0 ratio)
@@ -49,7 +54,11 @@ returns-clause-joined c first = first.without (one-joined 3 0 (omega arith))
 -- ---- two bad uses, the higher wire first
 
 two-joined : AllBelow (IsJoined doubled ((use_at 1 3 ∷ use_at 0 1 ∷ []) ∷ [])) 1
-two-joined zero there = pair-joined doubled (Contains (1 ∷ 0 ∷ [])) 0 (1, omega arith, refl) (record { wire = wire 0 1; is = refl; ends = inl (refl, refl) })
+two-joined zero there = pair-joined doubled (Contains (1 ∷ 0 ∷ [])) 0 (
+  1,
+  omega arith,
+  refl,
+) (record { wire = wire 0 1; is = refl; ends = inl (refl, refl) })
 two-joined (suc n) there = absurd (omega (arith, there))
 
 no-lower : All (λ (u : WireUse). u.wire < 0 → IsEvenRatio u.ratio) (use_at 1 3 ∷ use_at 0 1 ∷ [])
@@ -76,7 +85,11 @@ shared-links = record { wire = wire 0 1; is = refl; ends = inl (refl, refl) }
 all-joined : AllBelow (IsJoined shared crowded) 3
 all-joined zero there = pair-joined shared (Contains (0 ∷ [])) 0 (0, omega arith, refl) shared-links
 all-joined (suc zero) there = pair-joined shared (Contains (0 ∷ [])) 0 (0, omega arith, refl) shared-links
-all-joined (suc (suc zero)) there = pair-joined shared (Contains (0 ∷ [])) 0 (0, omega arith, refl) shared-links
+all-joined (suc (suc zero)) there = pair-joined shared (Contains (0 ∷ [])) 0 (
+  0,
+  omega arith,
+  refl,
+) shared-links
 all-joined (suc (suc (suc n))) there = absurd (omega (arith, there))
 
 all-even : AllBelow (HasEvenRatios crowded) 3
@@ -89,5 +102,9 @@ pub returns-clause-overfull : goal.returns-clause-overfull
 returns-clause-overfull c = (
   all-joined,
   all-even,
-  record { there = omega arith; without = λ fits. omega (arith, fits); before = λ k below. absurd (omega (arith, below)) },
+  record {
+    there = omega arith;
+    without = λ fits. omega (arith, fits);
+    before = λ k below. absurd (omega (arith, below));
+  },
 )

@@ -8,4 +8,5 @@ use Rattle.solution_eval.proofs.overfull.first_overfull.Given as goal
 abbrev pub invariant-loop-e : goal.invariant-loop-e
 invariant-loop-e l =
     AllBelow (IsFitting l.problem l.solution) l.e × (length l.counts.items ≡ length l.problem.wires)
-    × ((k : ℕ) → l.e ≤ k → k < length l.problem.wires → SameReciprocals (items_at l.counts.items k) (ratios_on l.solution k))
+    × ((k : ℕ) → l.e ≤ k → k < length l.problem.wires
+    → SameReciprocals (items_at l.counts.items k) (ratios_on l.solution k))

@@ -7,7 +7,8 @@ pub loop-init : goal.loop-init
 loop-init c = λ wanted. no_counts_none wanted c.new-counts.result.items c.new-counts.ensures.items
 
 pub loop-preserved : goal.loop-preserved
-loop-preserved c = λ wanted. no_counts_more wanted c.loop.counter c.loop.counts.items c.push.new.self.items c.new.result c.in_ok-push.ensures.items c.new.ensures.no_items (c.loop.invariant wanted)
+loop-preserved c = λ wanted. no_counts_more wanted c.loop.counter c.loop.counts.items c.push.new.self.items
+    c.new.result c.in_ok-push.ensures.items c.new.ensures.no_items (c.loop.invariant wanted)
 
 pub returns : goal.returns
 returns c = λ wanted.

@@ -3,4 +3,5 @@ use Rattle.std.specs.Prelude.{sum_by, slice_index}
 use Rattle.solution_eval.proofs.worth.sum_of_group.Given as goal
 
 abbrev pub invariant-loop-n : goal.invariant-loop-n
-invariant-loop-n l = (l.total ≡ sum_by (λ n. slice_index l.sums n) (take l.n-index l.nets)) × (l.total ≤ l.n-index * 2 ^ 96)
+invariant-loop-n l = (l.total ≡ sum_by (λ n. slice_index l.sums n) (take l.n-index l.nets))
+    × (l.total ≤ l.n-index * 2 ^ 96)

@@ -5,4 +5,5 @@ use Rattle.text_writer.specs.Writing.{Brings}
 use Rattle.solution_text.proofs.write.put_nets.Given as goal
 
 abbrev pub invariant-loop-net : goal.invariant-loop-net
-invariant-loop-net g l = Brings g.D.Desk.seen g.D.Desk.counts g.D.Desk.steady l.slot (l.fn.pending ++ flat_map net_text (take l.net l.solution)) l.fn.desk l.pending l.desk
+invariant-loop-net g l = Brings g.D.Desk.seen g.D.Desk.counts g.D.Desk.steady l.slot
+    (l.fn.pending ++ flat_map net_text (take l.net l.solution)) l.fn.desk l.pending l.desk

@@ -10,5 +10,12 @@ up : Links star 0 0 1
 up = record { wire = wire 0 1; is = refl; ends = inl (refl, refl) }
 
 pub returns-clause-arms : goal.returns-clause-arms
-returns-clause-arms c =
-    (λ same. omega (arith, same), (0, down, (λ same. omega (arith, same), (1, up, refl, λ on. on)), λ on. ⊎_elim (λ same. omega (arith, same)) (λ on. on.2) on))
+returns-clause-arms c = (
+  λ same. omega (arith, same),
+  (
+    0,
+    down,
+    (λ same. omega (arith, same), (1, up, refl, λ on. on)),
+    λ on. ⊎_elim (λ same. omega (arith, same)) (λ on. on.2) on,
+  ),
+)

@@ -31,8 +31,10 @@ hops t = if nat_eq t 1 then 0 else 2
 
 hops-right : (t : ℕ) → Contains (1 ∷ 2 ∷ 3 ∷ []) t → IsHopCount star 1 t (hops t)
 hops-right t there = ⊎_elim (λ same. subst (λ (n : ℕ). IsHopCount star 1 n (hops n)) same source-hops)
-    (λ rest. ⊎_elim (λ same. subst (λ (n : ℕ). IsHopCount star 1 n (hops n)) same (end-hops 1 (omega arith) (omega arith)))
-    (λ last. ⊎_elim (λ same. subst (λ (n : ℕ). IsHopCount star 1 n (hops n)) same (end-hops 2 (omega arith) (omega arith)))
+    (λ rest. ⊎_elim (λ same. subst (λ (n : ℕ). IsHopCount star 1 n (hops n)) same
+    (end-hops 1 (omega arith) (omega arith)))
+    (λ last. ⊎_elim (λ same. subst (λ (n : ℕ). IsHopCount star 1 n (hops n)) same
+    (end-hops 2 (omega arith) (omega arith)))
     (λ none. absurd (omega (arith, none.1))) (contains-cons 3 t [] last))
     (contains-cons 2 t (3 ∷ []) rest)) (contains-cons 1 t (2 ∷ 3 ∷ []) there)
 
@@ -41,7 +43,8 @@ returns-clause-walks c = within
 
 pub returns-clause-more : goal.returns-clause-more
 returns-clause-more c h =
-    let most : 5 ≤ sum_by hops (1 ∷ 2 ∷ 3 ∷ []) = h hops (λ t there. let d = hops-right t there in (d.walk.0, d.walk.1, omega (arith, d.walk.2))) in
+    let most : 5 ≤ sum_by hops (1 ∷ 2 ∷ 3 ∷ []) = h hops (λ t there. let d = hops-right t there in
+    (d.walk.0, d.walk.1, omega (arith, d.walk.2))) in
     let sum : sum_by hops (1 ∷ 2 ∷ 3 ∷ []) ≡ 4 = total hops in
     omega (arith, most, sum)
 
@@ -62,10 +65,12 @@ returns-clause-joining c = IsWithinJoining-from_first star (λ _. 1) 1 2 2
 
 pub returns-clause-longer : goal.returns-clause-longer
 returns-clause-longer c h =
-    let short : 3 ≤ length_of (λ _. 1) (0 ∷ 1 ∷ []) = h (0 ∷ 1 ∷ []) (arms-join (λ e. Contains (0 ∷ 1 ∷ []) e) (1 ∷ 2 ∷ []) arm) in
+    let short : 3 ≤ length_of (λ _. 1) (0 ∷ 1 ∷ []) =
+    h (0 ∷ 1 ∷ []) (arms-join (λ e. Contains (0 ∷ 1 ∷ []) e) (1 ∷ 2 ∷ []) arm) in
     omega (arith, short)
   where
     arm : (b : ℕ) → Contains (1 ∷ 2 ∷ []) b → (e : ℕ) × (e < 3) × (suc e ≡ b) × Contains (0 ∷ 1 ∷ []) e
     arm b there = ⊎_elim (λ same. (0, omega arith, same, (0, omega arith, refl)))
         (λ rest. ⊎_elim (λ same. (1, omega arith, same, (1, omega arith, refl)))
-        (λ none. absurd (omega (arith, none.1))) (contains-cons 2 b [] rest)) (contains-cons 1 b (2 ∷ []) there)
+        (λ none. absurd (omega (arith, none.1))) (contains-cons 2 b [] rest))
+        (contains-cons 1 b (2 ∷ []) there)

@@ -10,13 +10,22 @@ loop-left-init g c =
     let board = board_of c.args.graph.now in
     let l = g.Q.Lengths.length c.args.lengths.now in
     let bound = g.B.LowerBounds.lower_bound c.args.bounds.now in
-    let within : c.args.start < length c.args.search.now.labels = omega (arith, c.requires.start, c.requires.under_way.labelled.count) in
-    let P : List ℕ → Type 0 = λ wires. IsComposing board l bound c.args.cap c.args.start c.args.search.now c.add_source.new.self wires 0 c.args.others in
-    let start = IsComposing-start board l bound c.args.cap c.args.start c.args.search.now c.add_source.new.self c.args.others c.args.graph.now.fpgas c.requires.some c.requires.start c.requires.count c.requires.begun within
-    (c.in_ok-add_source.ensures.under_way board (both_ways l) bound c.args.cap c.requires.under_way) c.add_source.ensures.goals c.in_ok-add_source.ensures.labels in
+    let within : c.args.start < length c.args.search.now.labels = omega (
+      arith,
+      c.requires.start,
+      c.requires.under_way.labelled.count,
+    ) in
+    let P : List ℕ → Type 0 = λ wires. IsComposing board l bound c.args.cap c.args.start c.args.search.now
+    c.add_source.new.self wires 0 c.args.others in
+    let start = IsComposing-start board l bound c.args.cap c.args.start c.args.search.now
+    c.add_source.new.self c.args.others c.args.graph.now.fpgas c.requires.some c.requires.start
+    c.requires.count c.requires.begun within
+    (c.in_ok-add_source.ensures.under_way board (both_ways l) bound c.args.cap c.requires.under_way)
+    c.add_source.ensures.goals c.in_ok-add_source.ensures.labels in
     record {
       composing = subst P (sym c.requires.none) start;
-      lawful = subst (g.B.TreeBounds.are_true c.args.bounds.now board l) (sym c.add_source.ensures.goals) c.requires.lawful;
+      lawful = subst (g.B.TreeBounds.are_true c.args.bounds.now board l) (sym c.add_source.ensures.goals)
+          c.requires.lawful;
       covered = c.requires.bounds;
     }
 
@@ -32,8 +41,12 @@ loop-left-preserved g c =
     let step = rw c.in-Some.is at c.in_ok-distance.ensures.joined in
     let near = rw c.in-Some.is at c.in_ok-distance.ensures.below in
     record {
-      composing = IsComposing-more board l (g.B.LowerBounds.lower_bound c.loop-left.bounds) c.args.cap c.args.start c.args.search.now c.loop-left.search c.loop-left.wires.items c.loop-left.total c.loop-left.left c.loop-left.invariant.composing (links-inside board c.requires.graph.wires)
-          c.join_nearest.new.search (g.B.LowerBounds.lower_bound c.join_nearest.new.bounds) c.join_nearest.new.wires.items c.in-Some.distance step near c.in_ok-distance.ensures.under_way c.join_nearest.ensures.count c.join_nearest.ensures.size c.join_nearest.ensures.goals;
+      composing = IsComposing-more board l (g.B.LowerBounds.lower_bound c.loop-left.bounds) c.args.cap
+          c.args.start c.args.search.now c.loop-left.search c.loop-left.wires.items c.loop-left.total
+          c.loop-left.left c.loop-left.invariant.composing (links-inside board c.requires.graph.wires)
+          c.join_nearest.new.search (g.B.LowerBounds.lower_bound c.join_nearest.new.bounds)
+          c.join_nearest.new.wires.items c.in-Some.distance step near c.in_ok-distance.ensures.under_way
+          c.join_nearest.ensures.count c.join_nearest.ensures.size c.join_nearest.ensures.goals;
       lawful = rw c.in-Some.is at c.in_ok-distance.ensures.lawful;
       covered = omega (arith, c.loop-left.invariant.covered, c.join_nearest.ensures.covered);
     }
@@ -44,13 +57,20 @@ returns-in-None-clause-far g c = λ terminals root others.
     let l = g.Q.Lengths.length c.args.lengths.now in
     let bound = g.B.LowerBounds.lower_bound c.loop-left.bounds in
     let far = rw c.in-None.is at c.in_ok-distance.ensures.far in (
-      composing-far board l bound c.args.cap c.args.start c.args.search.now c.loop-left.search c.loop-left.wires.items c.loop-left.total c.loop-left.left c.loop-left.invariant.composing c.loop-left-test.true far terminals root others,
-      composing-beyond board l bound c.args.cap c.args.start c.args.search.now c.loop-left.search c.loop-left.wires.items c.loop-left.total c.loop-left.left c.loop-left.invariant.composing
-          (λ e there. g.met.Q.Lengths.limit c.args.lengths.now e (omega (arith, there, c.requires.lengths))) (omega (arith, c.requires.graph.fpga_limit)) c.loop-left-test.true far terminals root others,
+      composing-far board l bound c.args.cap c.args.start c.args.search.now c.loop-left.search
+          c.loop-left.wires.items c.loop-left.total c.loop-left.left c.loop-left.invariant.composing
+          c.loop-left-test.true far terminals root others,
+      composing-beyond board l bound c.args.cap c.args.start c.args.search.now c.loop-left.search
+          c.loop-left.wires.items c.loop-left.total c.loop-left.left c.loop-left.invariant.composing
+          (λ e there. g.met.Q.Lengths.limit c.args.lengths.now e (omega (arith, there, c.requires.lengths)))
+          (omega (arith, c.requires.graph.fpga_limit)) c.loop-left-test.true far terminals root others,
     )
 
 pub returns-clause-joined : goal.returns-clause-joined
 returns-clause-joined g c = (
-  composing-done (board_of c.args.graph.now) (g.Q.Lengths.length c.args.lengths.now) (g.B.LowerBounds.lower_bound c.loop-left.bounds) c.args.cap c.args.start c.args.search.now c.loop-left.search c.loop-left.wires.items c.loop-left.total c.loop-left.left c.loop-left.invariant.composing (omega (arith, c.loop-left-test.false)),
+  composing-done (board_of c.args.graph.now) (g.Q.Lengths.length c.args.lengths.now)
+      (g.B.LowerBounds.lower_bound c.loop-left.bounds) c.args.cap c.args.start c.args.search.now
+      c.loop-left.search c.loop-left.wires.items c.loop-left.total c.loop-left.left
+      c.loop-left.invariant.composing (omega (arith, c.loop-left-test.false)),
   c.loop-left.invariant.composing.joining,
 )

@@ -5,7 +5,8 @@ use Rattle.steiner_build.proofs.joining.join_all.Given as goal
 
 abbrev pub invariant-loop-left : goal.invariant-loop-left
 invariant-loop-left g l = record {
-  composing : IsComposing (board_of l.graph) (g.Q.Lengths.length l.lengths) (g.B.LowerBounds.lower_bound l.bounds) l.cap l.start l.fn.search l.search l.wires.items l.total l.left;
+  composing : IsComposing (board_of l.graph) (g.Q.Lengths.length l.lengths)
+      (g.B.LowerBounds.lower_bound l.bounds) l.cap l.start l.fn.search l.search l.wires.items l.total l.left;
   lawful : g.B.TreeBounds.are_true l.bounds (board_of l.graph) (g.Q.Lengths.length l.lengths) l.search.goals;
   covered : l.graph.fpgas ≤ g.B.LowerBounds.bounds_covered l.bounds;
 }

@@ -4,4 +4,5 @@ use Rattle.steiner_build.proofs.TakingLaws.{IsTaking}
 use Rattle.steiner_build.proofs.joining.take_in.Given as goal
 
 abbrev pub invariant-loop-e : goal.invariant-loop-e
-invariant-loop-e l = IsTaking (board_of l.graph) l.goal l.f l.path (drop l.e-index l.path) l.fn.search l.search
+invariant-loop-e l = IsTaking (board_of l.graph) l.goal l.f l.path (drop l.e-index l.path) l.fn.search
+    l.search

@@ -12,4 +12,5 @@ returns-clause-bound c wire_length lists other is =
     c.in_ok-cert.ensures.only_bound wire_length
     (subst (λ (ls : List ℕ). ListsLengths board ls wire_length) (sym c.deref-2.ensures.value) lists) other
     (subst (λ (ws : List ℕ). IsShareBound board ws wire_length other) (sym c.deref.ensures.value) is) in
-    c.in_ok-keep_checked.ensures.bound other (subst (IsBound board c.in_ok-cert.cert) (sym same) (chosen_bound board c.in_ok-cert.cert c.in_ok-cert.ensures.made.chosen))
+    c.in_ok-keep_checked.ensures.bound other (subst (IsBound board c.in_ok-cert.cert) (sym same)
+    (chosen_bound board c.in_ok-cert.cert c.in_ok-cert.ensures.made.chosen))

@@ -5,7 +5,8 @@ use Rattle.cert_checker.specs.Answer.{IsAnswer}
 use Rattle.tdm_cli.proofs.certify.checked_bound.Goals as goal
 
 pub returns-clause-is_bound : goal.returns-clause-is_bound
-returns-clause-is_bound c = (subst (IsAnswer c.args.problem.now c.args.cert.now) c.in-Accepted.is c.in_ok-bound.ensures.answer).1
+returns-clause-is_bound c =
+    (subst (IsAnswer c.args.problem.now c.args.cert.now) c.in-Accepted.is c.in_ok-bound.ensures.answer).1
 
 pub returns-clause-chosen : goal.returns-clause-chosen
 returns-clause-chosen c chosen =

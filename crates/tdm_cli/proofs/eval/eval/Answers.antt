@@ -9,5 +9,6 @@ returns c = record {
   legal = c.in_ok-verdict.ensures.legal;
   is =
       c.said.ensures 2 ∙ ap (λ s. comes_to 2 s c.in_ok-report.report.items []) c.status.ensures
-      ∙ ap (λ report. comes_to 2 (status_of_verdict c.in_ok-verdict.verdict) report []) c.in_ok-report.ensures;
+      ∙ ap (λ report. comes_to 2 (status_of_verdict c.in_ok-verdict.verdict) report [])
+      c.in_ok-report.ensures;
 }

@@ -9,4 +9,6 @@ loop-number-preserved c =
     let here : ℕ = get_or c.loop-number.numbers c.loop-number.number-index 0 in
     let there : c.loop-number.number-index < length c.loop-number.numbers = omega arith in
     ap (λ (x : ℕ). set c.loop-number.numbers c.loop-number.number-index x) c.root.ensures
-    ∙ map_over_more root_of c.args.numbers.now c.loop-number.numbers c.loop-number.number-index here (omega arith) c.loop-number.invariant (get_or_default c.loop-number.numbers c.loop-number.number-index 0 here there)
+    ∙ map_over_more root_of c.args.numbers.now c.loop-number.numbers c.loop-number.number-index here
+    (omega arith) c.loop-number.invariant (get_or_default c.loop-number.numbers c.loop-number.number-index
+    0 here there)

@@ -11,6 +11,8 @@ invariant-loop-done l = record {
   weights : AreWeights l.problem l.running.weights.items;
   minimal : AreMinimalTrees l.problem l.running.trees;
   best : IsBest l.problem l.running.best.solution l.running.best.value l.running.best.certified;
-  under_way : IsUnderWay l.problem l.rounds l.fn.running.weights.items l.fn.running.trees (l.rounds - l.done) l.running.weights.items l.running.trees l.running.best.value l.running.best.certified.bound l.running.candidates.last;
+  under_way : IsUnderWay l.problem l.rounds l.fn.running.weights.items l.fn.running.trees
+      (l.rounds - l.done) l.running.weights.items l.running.trees l.running.best.value
+      l.running.best.certified.bound l.running.candidates.last;
   candidates : AreCandidates l.problem l.running.candidates;
 }

@@ -18,12 +18,28 @@ returns-clause-rounds c some =
     let grown = c.keep_grown_rounds.new.best.certified.bound in
     let bound = c.keep_grown_group.new.best.certified.bound in
     let value = c.tighten_best.new.best.value in
-    let same : before.value ≡ c.keep_grown_group.new.best.value = sym (c.keep_grown_group.ensures.value ∙ c.keep_grown_rounds.ensures.value) in
-    let weights : c.in_ok-weights.weights.items ≡ first_weights board = c.in_ok-weights.ensures.items_if_clones_equal (search rules) ∙ ap (λ (k : ℕ). replicate k (2 ^ 20)) c.groups.ensures.value in
-    let last : (candidate : Candidate) → running.candidates.last ≡ Some candidate → (other : ℕ) → IsBound board (growing_cert board Share candidate.weights.items candidate.lengths.items) other → other ≤ bound =
-    λ candidate is other bounds. omega (arith, subst (λ (o : Option Candidate). IfSome o (λ (x : Candidate). (k : ℕ) → IsBound board (growing_cert board Share x.weights.items x.lengths.items) k → k ≤ grown)) is c.in_ok-keep_grown_rounds.ensures.last other bounds, c.in_ok-keep_grown_group.ensures.higher) in
-    subst (λ (certified : Certified). MeetsRounds board c.args.trees c.args.rounds value certified.bound) (sym c.in_ok-tighten_best.ensures.certified)
-    (meets-rounds board c.args.trees c.args.rounds before.value value before.certified.bound bound running.candidates.last
-    (omega (arith, c.in_ok-tighten_best.ensures.lower, same)) (omega (arith, c.in_ok-keep_grown_rounds.ensures.higher, c.in_ok-keep_grown_group.ensures.higher)) last
-    (subst (λ (ws : List ℕ). MeetsFrom board c.args.rounds ws c.args.trees before.value before.certified.bound running.candidates.last) weights
+    let same : before.value ≡ c.keep_grown_group.new.best.value =
+    sym (c.keep_grown_group.ensures.value ∙ c.keep_grown_rounds.ensures.value) in
+    let weights : c.in_ok-weights.weights.items ≡ first_weights board =
+    c.in_ok-weights.ensures.items_if_clones_equal (search rules)
+    ∙ ap (λ (k : ℕ). replicate k (2 ^ 20)) c.groups.ensures.value in
+    let last : (candidate : Candidate) → running.candidates.last ≡ Some candidate → (other : ℕ)
+    → IsBound board (growing_cert board Share candidate.weights.items candidate.lengths.items) other
+    → other ≤ bound =
+    λ candidate is other bounds. omega (
+      arith,
+      subst (λ (o : Option Candidate). IfSome o (λ (x : Candidate). (k : ℕ)
+          → IsBound board (growing_cert board Share x.weights.items x.lengths.items) k → k ≤ grown)) is
+          c.in_ok-keep_grown_rounds.ensures.last other bounds,
+      c.in_ok-keep_grown_group.ensures.higher,
+    ) in
+    subst (λ (certified : Certified). MeetsRounds board c.args.trees c.args.rounds value certified.bound)
+    (sym c.in_ok-tighten_best.ensures.certified)
+    (meets-rounds board c.args.trees c.args.rounds before.value value before.certified.bound bound
+    running.candidates.last
+    (omega (arith, c.in_ok-tighten_best.ensures.lower, same))
+    (omega (arith, c.in_ok-keep_grown_rounds.ensures.higher, c.in_ok-keep_grown_group.ensures.higher))
+    last
+    (subst (λ (ws : List ℕ). MeetsFrom board c.args.rounds ws c.args.trees before.value before.certified.bound
+    running.candidates.last) weights
     (c.in_ok-all_rounds.ensures.rounds (omega (arith, some, c.in_ok-tighten_best.ensures.lower, same)))))

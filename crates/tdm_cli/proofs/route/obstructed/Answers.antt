@@ -8,9 +8,11 @@ pub returns-in_ok-report-in-Unconnectable : goal.returns-in_ok-report-in-Unconne
 returns-in_ok-report-in-Unconnectable c = λ board rounds shows.
     let are = rw c.in-Unconnectable.is at shows in
     is_unconnectable c.in-Unconnectable.nets.items are.0 are.1
-    (c.said.ensures 1 ∙ ap (λ report. comes_to 1 status.Unconnectable report []) (c.in_ok-report-in-Unconnectable.ensures ∙ ap unconnectable_report c.as_slice.ensures.value))
+    (c.said.ensures 1 ∙ ap (λ report. comes_to 1 status.Unconnectable report [])
+    (c.in_ok-report-in-Unconnectable.ensures ∙ ap unconnectable_report c.as_slice.ensures.value))
 
 pub returns-in_ok-report-in-UseLimit : goal.returns-in_ok-report-in-UseLimit
 returns-in_ok-report-in-UseLimit c = λ board rounds shows.
     is_over_limit (rw c.in-UseLimit.is at shows)
-    (c.said-in-UseLimit.ensures 1 ∙ ap (λ report. comes_to 1 status.UseLimit report []) c.in_ok-report-in-UseLimit.ensures.items)
+    (c.said-in-UseLimit.ensures 1
+    ∙ ap (λ report. comes_to 1 status.UseLimit report []) c.in_ok-report-in-UseLimit.ensures.items)

@@ -13,7 +13,9 @@ returns-in_ok-texts-in-Ok c =
     let made = c.in-Ok.ensures.plan in
     is_routed plan.solution plan.cert made.0 made.1
     (ap (λ report. comes_to 1 status.Ok report (map text_of c.in_ok-texts-in-Ok.texts.items)) made.2
-    ∙ ap (λ texts. comes_to 1 status.Ok (route_report (value_of c.args.problem.now plan.solution) made.0) (map text_of texts)) c.in_ok-texts-in-Ok.ensures)
+    ∙ ap (λ texts. comes_to 1 status.Ok (route_report (value_of c.args.problem.now plan.solution) made.0)
+    (map text_of texts)) c.in_ok-texts-in-Ok.ensures)
 
 pub returns-in-Err : goal.returns-in-Err
-returns-in-Err c = map-ok c.obstructed.result _ _ (λ prepared each. each c.args.problem.now c.args.rounds c.in-Err.ensures.obstacle) c.obstructed.ensures
+returns-in-Err c = map-ok c.obstructed.result _ _ (λ prepared each. each c.args.problem.now c.args.rounds
+    c.in-Err.ensures.obstacle) c.obstructed.ensures

@@ -24,4 +24,5 @@ loop-done-preserved g c = record {
 pub returns-in_err-done-clause-own : goal.returns-in_err-done-clause-own
 returns-in_err-done-clause-own g c =
     let p = err_from_is_err_and c.from_residual.result c.from_residual.ensures.1 in
-    rw (p.1, p.2) (write_fault_later g.D.Desk.counts _ _ _ _ c.loop-done.invariant.uncounted c.in_err-done.ensures.own)
+    rw (p.1, p.2) (write_fault_later g.D.Desk.counts _ _ _ _ c.loop-done.invariant.uncounted
+    c.in_err-done.ensures.own)

@@ -9,4 +9,5 @@ returns-in-Ok c = λ token is.
 
 pub returns-in-Err : goal.returns-in-Err
 returns-in-Err c = λ token is.
-    sym (reading-push_fault _ _ token (sym c.is_ascii_digit.ensures.value ∙ c.if-not-is_ascii_digit.false) _ (sym is ∙ c.in-Err.is))
+    sym (reading-push_fault _ _ token (sym c.is_ascii_digit.ensures.value ∙ c.if-not-is_ascii_digit.false)
+    _ (sym is ∙ c.in-Err.is))

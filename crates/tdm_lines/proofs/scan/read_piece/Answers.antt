@@ -5,4 +5,5 @@ pub loop-place-preserved : goal.loop-place-preserved
 loop-place-preserved c =
     let token = c.read_token-token.ensures in
     let skipped = c.skip_blanks-place-in-loop-place.ensures in
-    PieceSoFar-push _ _ _ _ _ _ _ c.loop-place.invariant _ _ _ _ _ _ token.token token.reading token.from skipped.from skipped.within skipped.stops skipped.same c.in_ok-fault.ensures.added
+    PieceSoFar-push _ _ _ _ _ _ _ c.loop-place.invariant _ _ _ _ _ _ token.token token.reading token.from
+    skipped.from skipped.within skipped.stops skipped.same c.in_ok-fault.ensures.added

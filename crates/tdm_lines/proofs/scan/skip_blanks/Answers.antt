@@ -6,5 +6,6 @@ pub loop-place-preserved : goal.loop-place-preserved
 loop-place-preserved c = (
   omega arith,
   omega arith,
-  SameAhead-skip _ _ _ c.loop-place-test.true (sym c.is_blank.ensures ∙ c.if-is_blank.true) c.loop-place.invariant.2,
+  SameAhead-skip _ _ _ c.loop-place-test.true (sym c.is_blank.ensures
+      ∙ c.if-is_blank.true) c.loop-place.invariant.2,
 )

@@ -16,7 +16,10 @@ returns-clause-less c is = omega (arith, two-hops 1 (omega arith) is.walk.0 is.w
 
 pub returns-clause-more : goal.returns-clause-more
 returns-clause-more c is =
-    let short : 2 ≤ 1 = is.least (2 ∷ []) (omega arith, (2, record { wire = wire 0 2; is = refl; ends = inl (refl, refl) }, refl)) in
+    let short : 2 ≤ 1 = is.least (2 ∷ []) (
+      omega arith,
+      (2, record { wire = wire 0 2; is = refl; ends = inl (refl, refl) }, refl),
+    ) in
     omega (arith, short)
 
 -- each wire has a length
@@ -28,9 +31,11 @@ has-length (suc (suc e)) = omega arith
 -- only the long wire leads from 0 to 2
 long-wire : (e b : ℕ) → Links ring e 0 b → b ≡ 2 → 2 ≤ ring_length e
 long-wire zero b links same =
-    ⊎_elim (λ forth. absurd (omega (arith, forth.1, same))) (λ back. absurd (omega (arith, back.1))) (link-ends ring 0 0 b (wire 0 1) refl links)
+    ⊎_elim (λ forth. absurd (omega (arith, forth.1, same))) (λ back. absurd (omega (arith, back.1)))
+    (link-ends ring 0 0 b (wire 0 1) refl links)
 long-wire (suc zero) b links same =
-    ⊎_elim (λ forth. absurd (omega (arith, forth.0))) (λ back. absurd (omega (arith, back.1))) (link-ends ring 1 0 b (wire 1 2) refl links)
+    ⊎_elim (λ forth. absurd (omega (arith, forth.0))) (λ back. absurd (omega (arith, back.1)))
+    (link-ends ring 1 0 b (wire 1 2) refl links)
 long-wire (suc (suc e)) b links same = omega arith
 
 two-long : (es : List ℕ) → IsWalk ring (AnyWire ring) 0 es 2 → 2 ≤ length_of ring_length es
@@ -42,7 +47,14 @@ pub returns-clause-lengths : goal.returns-clause-lengths
 returns-clause-lengths c = record {
   walk = (
     0 ∷ 1 ∷ [],
-    (omega arith, (1, record { wire = wire 0 1; is = refl; ends = inl (refl, refl) }, (omega arith, (2, record { wire = wire 1 2; is = refl; ends = inl (refl, refl) }, refl)))),
+    (
+      omega arith,
+      (
+        1,
+        record { wire = wire 0 1; is = refl; ends = inl (refl, refl) },
+        (omega arith, (2, record { wire = wire 1 2; is = refl; ends = inl (refl, refl) }, refl)),
+      ),
+    ),
     refl,
   );
   least = two-long;

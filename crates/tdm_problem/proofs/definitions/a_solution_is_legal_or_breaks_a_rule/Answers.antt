@@ -13,10 +13,23 @@ use Rattle.tdm_problem.proofs.definitions.a_solution_is_legal_or_breaks_a_rule.G
 shared-is_for : IsFor shared (on_wire_0 (2 ∷ 4 ∷ 4 ∷ []))
 shared-is_for = search rules
 
-shared-joined : (n : ℕ) → n < 3 → Joins shared (Contains (wires_of (uses_of (on_wire_0 (2 ∷ 4 ∷ 4 ∷ [])) n))) (terminals_of shared n)
-shared-joined zero there = pair-joined shared (Contains (0 ∷ [])) 0 (0, omega arith, refl) (record { wire = wire 0 1; is = refl; ends = inl (refl, refl) })
-shared-joined (suc zero) there = pair-joined shared (Contains (0 ∷ [])) 0 (0, omega arith, refl) (record { wire = wire 0 1; is = refl; ends = inl (refl, refl) })
-shared-joined (suc (suc zero)) there = pair-joined shared (Contains (0 ∷ [])) 0 (0, omega arith, refl) (record { wire = wire 0 1; is = refl; ends = inl (refl, refl) })
+shared-joined : (n : ℕ) → n < 3 → Joins shared (Contains (wires_of (uses_of (on_wire_0 (2 ∷ 4 ∷ 4 ∷ [])) n)))
+    (terminals_of shared n)
+shared-joined zero there = pair-joined shared (Contains (0 ∷ [])) 0 (
+  0,
+  omega arith,
+  refl,
+) (record { wire = wire 0 1; is = refl; ends = inl (refl, refl) })
+shared-joined (suc zero) there = pair-joined shared (Contains (0 ∷ [])) 0 (
+  0,
+  omega arith,
+  refl,
+) (record { wire = wire 0 1; is = refl; ends = inl (refl, refl) })
+shared-joined (suc (suc zero)) there = pair-joined shared (Contains (0 ∷ [])) 0 (
+  0,
+  omega arith,
+  refl,
+) (record { wire = wire 0 1; is = refl; ends = inl (refl, refl) })
 shared-joined (suc (suc (suc n))) there = absurd (omega (arith, there))
 
 shared-even : All (λ uses. All IsEvenRatio (ratios_of uses)) (on_wire_0 (2 ∷ 4 ∷ 4 ∷ []))
@@ -42,8 +55,14 @@ returns-clause-exactly_one c = record {
 cycle-is_for : IsFor doubled ((use_at 1 2 ∷ use_at 0 2 ∷ []) ∷ [])
 cycle-is_for = search rules
 
-cycle-joined : (n : ℕ) → n < 1 → Joins doubled (Contains (wires_of (uses_of ((use_at 1 2 ∷ use_at 0 2 ∷ []) ∷ []) n))) (terminals_of doubled n)
-cycle-joined zero there = pair-joined doubled (Contains (1 ∷ 0 ∷ [])) 0 (1, omega arith, refl) (record { wire = wire 0 1; is = refl; ends = inl (refl, refl) })
+cycle-joined : (n : ℕ) → n < 1
+    → Joins doubled (Contains (wires_of (uses_of ((use_at 1 2 ∷ use_at 0 2 ∷ []) ∷ []) n)))
+    (terminals_of doubled n)
+cycle-joined zero there = pair-joined doubled (Contains (1 ∷ 0 ∷ [])) 0 (
+  1,
+  omega arith,
+  refl,
+) (record { wire = wire 0 1; is = refl; ends = inl (refl, refl) })
 cycle-joined (suc n) there = absurd (omega (arith, there))
 
 cycle-even : All (λ uses. All IsEvenRatio (ratios_of uses)) ((use_at 1 2 ∷ use_at 0 2 ∷ []) ∷ [])
@@ -78,7 +97,8 @@ returns-clause-odd c is =
 pub returns-clause-not_joined : goal.returns-clause-not_joined
 returns-clause-not_joined c is =
     let walk = is.joined 0 (omega arith) 0 1 (0, omega arith, refl) (1, omega arith, refl) in
-    let stays = walk-stays pair (Contains []) (λ x. x ≡ 0) (λ e a b there links here. absurd (omega (arith, there.1))) 0 walk.0 1 walk.1 refl in
+    let stays = walk-stays pair (Contains []) (λ x. x ≡ 0)
+    (λ e a b there links here. absurd (omega (arith, there.1))) 0 walk.0 1 walk.1 refl in
     omega (arith, stays)
 
 pub returns-clause-wire_twice : goal.returns-clause-wire_twice

@@ -17,7 +17,8 @@ arm-of b (suc (suc zero), there, is) = (2, omega arith, is, (2, omega arith, ref
 arm-of b (suc (suc (suc k)), there, is) = absurd (omega (arith, there))
 
 -- a walk from the end of an arm that is gone leads nowhere
-cut : (e b : ℕ) → Contains (1 ∷ 2 ∷ 3 ∷ []) (suc e) → Contains (1 ∷ 2 ∷ 3 ∷ []) b → Joins star (Without e) (1 ∷ 2 ∷ 3 ∷ []) → b ≡ suc e
+cut : (e b : ℕ) → Contains (1 ∷ 2 ∷ 3 ∷ []) (suc e) → Contains (1 ∷ 2 ∷ 3 ∷ []) b
+    → Joins star (Without e) (1 ∷ 2 ∷ 3 ∷ []) → b ≡ suc e
 cut e b from to joins =
     let walk = joins (suc e) b from to in
     end-alone e (Without e) (λ d left. left.1) walk.0 b walk.1
@@ -35,7 +36,10 @@ needs-each e (suc (suc zero), there, is) joins =
 needs-each e (suc (suc (suc k)), there, is) joins = omega (arith, there)
 
 pub returns-clause-arms : goal.returns-clause-arms
-returns-clause-arms c = record { joins = arms-join (Contains (0 ∷ 1 ∷ 2 ∷ [])) (1 ∷ 2 ∷ 3 ∷ []) arm-of; needs = needs-each }
+returns-clause-arms c = record {
+  joins = arms-join (Contains (0 ∷ 1 ∷ 2 ∷ [])) (1 ∷ 2 ∷ 3 ∷ []) arm-of;
+  needs = needs-each;
+}
 
 pub returns-clause-dangling : goal.returns-clause-dangling
 returns-clause-dangling c tree = tree.needs 2 (2, omega arith, refl) two-ends-joined
@@ -43,5 +47,8 @@ returns-clause-dangling c tree = tree.needs 2 (2, omega arith, refl) two-ends-jo
 pub returns-clause-cycle : goal.returns-clause-cycle
 returns-clause-cycle c tree =
     tree.needs 1 (1, omega arith, refl)
-    (pair-joined doubled (λ d. Contains (0 ∷ 1 ∷ []) d × (d ≢ 1)) 0 ((0, omega arith, refl), λ same. omega (arith, same))
+    (pair-joined doubled (λ d. Contains (0 ∷ 1 ∷ []) d × (d ≢ 1)) 0 (
+      (0, omega arith, refl),
+      λ same. omega (arith, same),
+    )
     (record { wire = wire 0 1; is = refl; ends = inl (refl, refl) }))

@@ -33,13 +33,18 @@ returns-clause-missing_arm c joins =
 
 pub returns-clause-same_part : goal.returns-clause-same_part
 returns-clause-same_part c =
-    pair-joined split (AnyWire split) 0 (omega arith) (record { wire = wire 0 1; is = refl; ends = inl (refl, refl) })
+    pair-joined split (AnyWire split) 0 (omega arith) (record {
+      wire = wire 0 1;
+      is = refl;
+      ends = inl (refl, refl);
+    })
 
 -- the first net of the board in two parts
 apart : IsConnectable split (0 ∷ 2 ∷ []) → ⊥
 apart joins =
     let walk = joins 0 2 (0, omega arith, refl) (1, omega arith, refl) in
-    let stays = walk-stays split (AnyWire split) (λ x. x < 2) (λ e a b there links here. part-kept e a b links here) 0 walk.0 2 walk.1 (omega arith) in
+    let stays = walk-stays split (AnyWire split) (λ x. x < 2)
+    (λ e a b there links here. part-kept e a b links here) 0 walk.0 2 walk.1 (omega arith) in
     omega (arith, stays)
 
 pub returns-clause-two_parts : goal.returns-clause-two_parts
@@ -49,7 +54,11 @@ pub returns-clause-all_nets : goal.returns-clause-all_nets
 returns-clause-all_nets c = each
   where
     joined : IsConnectable shared (0 ∷ 1 ∷ [])
-    joined = pair-joined shared (AnyWire shared) 0 (omega arith) (record { wire = wire 0 1; is = refl; ends = inl (refl, refl) })
+    joined = pair-joined shared (AnyWire shared) 0 (omega arith) (record {
+      wire = wire 0 1;
+      is = refl;
+      ends = inl (refl, refl);
+    })
 
     each : AllConnectable shared
     each zero there = joined

@@ -11,6 +11,16 @@ returns-in_err-flush-clause-err g c =
 
 pub returns-clause-ok : goal.returns-clause-ok
 returns-clause-ok g c = elim c.if-room-piece.branch [
-  | then-room-piece+in_ok-flush w ↦ rw (c.extend.ensures, w.desk-is) (under_way_more c.args.slot c.args.pending.now _ _ _ c.args.piece.now (under_way_written c.args.slot c.args.pending.now _ _ _ w.in_ok-flush.ensures.ok (w.pending-is ∙ w.in_ok-flush.ensures.emptied)))
-  | else-room-piece w ↦ rw (c.extend.ensures, w.desk-is, w.pending-is) (under_way_more c.args.slot c.args.pending.now _ c.args.pending.now _ c.args.piece.now (under_way_none c.args.slot c.args.pending.now _))
+  | then-room-piece+in_ok-flush w ↦ rw (
+    c.extend.ensures,
+    w.desk-is,
+  ) (under_way_more c.args.slot c.args.pending.now _ _ _ c.args.piece.now
+      (under_way_written c.args.slot c.args.pending.now _ _ _ w.in_ok-flush.ensures.ok (w.pending-is
+      ∙ w.in_ok-flush.ensures.emptied)))
+  | else-room-piece w ↦ rw (
+    c.extend.ensures,
+    w.desk-is,
+    w.pending-is,
+  ) (under_way_more c.args.slot c.args.pending.now _ c.args.pending.now _ c.args.piece.now
+      (under_way_none c.args.slot c.args.pending.now _))
 ]

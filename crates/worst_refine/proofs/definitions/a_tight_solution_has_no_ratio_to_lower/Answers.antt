@@ -22,8 +22,10 @@ returns-clause-exactly_one c (suc (suc zero)) zero there place_there = λ above 
 returns-clause-exactly_one c (suc (suc (suc zero))) zero there place_there = λ above fits. omega (arith, fits)
 returns-clause-exactly_one c zero (suc place) there place_there = absurd (omega (arith, place_there))
 returns-clause-exactly_one c (suc zero) (suc place) there place_there = absurd (omega (arith, place_there))
-returns-clause-exactly_one c (suc (suc zero)) (suc place) there place_there = absurd (omega (arith, place_there))
-returns-clause-exactly_one c (suc (suc (suc zero))) (suc place) there place_there = absurd (omega (arith, place_there))
+returns-clause-exactly_one c (suc (suc zero)) (suc place) there place_there =
+    absurd (omega (arith, place_there))
+returns-clause-exactly_one c (suc (suc (suc zero))) (suc place) there place_there =
+    absurd (omega (arith, place_there))
 returns-clause-exactly_one c (suc (suc (suc (suc n)))) place there place_there = absurd (omega (arith, there))
 
 pub returns-clause-room : goal.returns-clause-room

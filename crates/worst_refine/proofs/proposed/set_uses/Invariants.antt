@@ -5,4 +5,5 @@ use Rattle.worst_refine.specs.Traded.{IsSmallRatio}
 use Rattle.worst_refine.proofs.proposed.set_uses.Given as goal
 
 abbrev pub invariant-loop-e : goal.invariant-loop-e
-invariant-loop-e l = (wires_of l.uses.items ≡ take l.e-index l.wires) × All IsSmallRatio (ratios_of l.uses.items)
+invariant-loop-e l = (wires_of l.uses.items ≡ take l.e-index l.wires)
+    × All IsSmallRatio (ratios_of l.uses.items)

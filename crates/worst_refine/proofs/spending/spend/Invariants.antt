@@ -6,4 +6,6 @@ use Rattle.worst_refine.proofs.spending.spend.Given as goal
 
 abbrev pub invariant-loop-wire_use : goal.invariant-loop-wire_use
 invariant-loop-wire_use l = (e : ℕ) → e < length l.initial.spent
-    → get_or l.spent e 0 ≡ min (get_or l.initial.spent e 0 + ceiling_sum (ratios_of (filter (λ u. u.wire == e) (take l.wire_use-index l.uses)))) (2 ^ 64 + 1)
+    → get_or l.spent e 0
+    ≡ min (get_or l.initial.spent e 0
+    + ceiling_sum (ratios_of (filter (λ u. u.wire == e) (take l.wire_use-index l.uses)))) (2 ^ 64 + 1)

@@ -6,4 +6,5 @@ loop-g-init c = sure_none _ c.args.solution.now c.args.spent.now c.requires.fitt
 
 pub loop-g-preserved : goal.loop-g-preserved
 loop-g-preserved c =
-    sure_again c.args.spent.now c.args.solution.now c.loop-g.solution c.lower_nets.new.solution c.loop-g.spent c.lower_nets.new.spent c.loop-g.invariant c.lower_nets.ensures
+    sure_again c.args.spent.now c.args.solution.now c.loop-g.solution c.lower_nets.new.solution c.loop-g.spent
+    c.lower_nets.new.spent c.loop-g.invariant c.lower_nets.ensures

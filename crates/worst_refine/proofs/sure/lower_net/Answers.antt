@@ -5,7 +5,8 @@ use Rattle.worst_refine.proofs.sure.lower_net.Goals as goal
 
 pub overflow_cast-places : goal.overflow_cast-places
 overflow_cast-places c =
-    let few = few_uses (length c.args.spent.now) c.args.solution.now c.args.n c.requires.fitting c.requires.there in
+    let few = few_uses (length c.args.spent.now) c.args.solution.now c.args.n c.requires.fitting
+    c.requires.there in
     omega (arith, ap length c.uses.ensures.value, few, c.requires.few)
 
 pub loop-place-init : goal.loop-place-init
@@ -13,4 +14,5 @@ loop-place-init c = sure_none _ c.args.solution.now c.args.spent.now c.requires.
 
 pub loop-place-preserved : goal.loop-place-preserved
 loop-place-preserved c =
-    sure_again c.args.spent.now c.args.solution.now c.loop-place.solution c.lower_use.new.solution c.loop-place.spent c.lower_use.new.spent c.loop-place.invariant c.lower_use.ensures
+    sure_again c.args.spent.now c.args.solution.now c.loop-place.solution c.lower_use.new.solution
+    c.loop-place.spent c.lower_use.new.spent c.loop-place.invariant c.lower_use.ensures

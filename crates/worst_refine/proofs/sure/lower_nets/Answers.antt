@@ -6,4 +6,5 @@ loop-n-init c = sure_none _ c.args.solution.now c.args.spent.now c.requires.fitt
 
 pub loop-n-preserved : goal.loop-n-preserved
 loop-n-preserved c =
-    sure_again c.args.spent.now c.args.solution.now c.loop-n.solution c.lower_net.new.solution c.loop-n.spent c.lower_net.new.spent c.loop-n.invariant c.lower_net.ensures
+    sure_again c.args.spent.now c.args.solution.now c.loop-n.solution c.lower_net.new.solution c.loop-n.spent
+    c.lower_net.new.spent c.loop-n.invariant c.lower_net.ensures

@@ -8,5 +8,10 @@ pub least_ratio-least-requires-clause-room : goal.least_ratio-least-requires-cla
 least_ratio-least-requires-clause-room c =
     let some = c.requires.even.1 in
     let half = c.requires.even.2 in
-    FitsLanes-greater c.args.ratio 4294967294 (items c.remove.new.self) 1 (omega arith) (omega (arith, half, c.ranges.ratio.fits))
-    (FitsLanes-same (items c.args.counts.now) (c.args.ratio ∷ items c.remove.new.self) 1 (SameReciprocals-sym _ _ c.remove.ensures.same) c.requires.fits)
+    FitsLanes-greater c.args.ratio 4294967294 (items c.remove.new.self) 1 (omega arith) (omega (
+      arith,
+      half,
+      c.ranges.ratio.fits,
+    ))
+    (FitsLanes-same (items c.args.counts.now) (c.args.ratio ∷ items c.remove.new.self) 1
+    (SameReciprocals-sym _ _ c.remove.ensures.same) c.requires.fits)

@@ -3,4 +3,6 @@ use Rattle.worst_refine.specs.Traded.{HasSmallRatios}
 use Rattle.worst_refine.proofs.trade_tests.on_wire_0.Given as goal
 
 abbrev pub invariant-loop-ratio : goal.invariant-loop-ratio
-invariant-loop-ratio l = (l.solution ≡ map (λ ratio. record { wire = 0; ratio = ratio } ∷ []) (take l.ratio-index l.ratios)) × HasSmallRatios l.solution
+invariant-loop-ratio l =
+    (l.solution ≡ map (λ ratio. record { wire = 0; ratio = ratio } ∷ []) (take l.ratio-index l.ratios))
+    × HasSmallRatios l.solution

@@ -10,5 +10,8 @@ pub returns-in_ok-refuse-in-Err-clause-said : goal.returns-in_ok-refuse-in-Err-c
 returns-in_ok-refuse-in-Err-clause-said c = λ numbers after more taken.
     let now = c.args.self.now in
     c.in_ok-refuse-in-Err.ensures.said _ after more
-    (subst (λ (r : Role). IsFaultOf c.in-Err.fault (said_in r now.sizes now.header.potentials (so_far now) now.left after (ended_line c.args.line c.args.fault numbers ∷ more))) (sym c.requires.role)
-    (header-refused after now.sizes c.args.line c.args.fault numbers more c.in-Err.fault (c.in-Err.ensures.said numbers taken)))
+    (subst (λ (r : Role). IsFaultOf c.in-Err.fault (said_in r now.sizes now.header.potentials
+    (so_far now) now.left after (ended_line c.args.line c.args.fault numbers ∷ more)))
+    (sym c.requires.role)
+    (header-refused after now.sizes c.args.line c.args.fault numbers more c.in-Err.fault
+    (c.in-Err.ensures.said numbers taken)))

@@ -15,28 +15,57 @@ pub returns-then-self-gt0-clause-said : goal.returns-then-self-gt0-clause-said
 returns-then-self-gt0-clause-said c = λ numbers after more taken.
     let now = c.args.self.now in
     let line : Line = ended_line c.args.line c.args.fault numbers in
-    let fits = subst (λ (r : Role). IsInRole r now.header.potentials (so_far now) now.left) c.requires.role c.requires.fine.in_role in
-    let items : c.push.new.self.items ≡ now.lengths.items ++ c.in-Ok.length ∷ [] = search (rules, common_steps) in
-    ap (λ (r : Role). said_in r now.sizes now.header.potentials (so_far now) now.left after (line ∷ more)) c.requires.role
-    ∙ section-taken after (number_said LengthLimit most_length) (λ (ls : List ℕ). in_potentials after now.sizes now.header.potentials (record (so_far now) { lengths = ls }) now.header.potentials) now.left now.lengths.items c.push.new.self.items c.args.line c.args.fault numbers more c.in-Ok.length fits.some (c.in-Ok.ensures.said numbers taken) items
-    ∙ ap (λ (r : Role). said_in r now.sizes now.header.potentials (record (so_far now) { lengths = c.push.new.self.items }) (now.left - 1) after more) (sym c.requires.role)
+    let fits = subst (λ (r : Role). IsInRole r now.header.potentials (so_far now) now.left) c.requires.role
+    c.requires.fine.in_role in
+    let items : c.push.new.self.items ≡ now.lengths.items ++ c.in-Ok.length ∷ [] =
+    search (rules, common_steps) in
+    ap (λ (r : Role). said_in r now.sizes now.header.potentials (so_far now) now.left after (line ∷ more))
+    c.requires.role
+    ∙ section-taken after (number_said LengthLimit most_length)
+    (λ (ls : List ℕ). in_potentials after now.sizes now.header.potentials (record (so_far now) {
+      lengths =
+          ls;
+    }) now.header.potentials) now.left now.lengths.items c.push.new.self.items c.args.line
+    c.args.fault numbers more c.in-Ok.length fits.some (c.in-Ok.ensures.said numbers taken) items
+    ∙ ap (λ (r : Role). said_in r now.sizes now.header.potentials (record (so_far now) {
+      lengths =
+          c.push.new.self.items;
+    }) (now.left - 1) after more) (sym c.requires.role)
 
 pub returns-in_ok-begin_potentials-in-Ok-clause-said : goal.returns-in_ok-begin_potentials-in-Ok-clause-said
 returns-in_ok-begin_potentials-in-Ok-clause-said c = λ numbers after more taken.
     let now = c.args.self.now in
     let line : Line = ended_line c.args.line c.args.fault numbers in
-    let fits = subst (λ (r : Role). IsInRole r now.header.potentials (so_far now) now.left) c.requires.role c.requires.fine.in_role in
-    let items : c.push.new.self.items ≡ now.lengths.items ++ c.in-Ok.length ∷ [] = search (rules, common_steps) in
-    ap (λ (r : Role). said_in r now.sizes now.header.potentials (so_far now) now.left after (line ∷ more)) c.requires.role
-    ∙ section-taken after (number_said LengthLimit most_length) (λ (ls : List ℕ). in_potentials after now.sizes now.header.potentials (record (so_far now) { lengths = ls }) now.header.potentials) now.left now.lengths.items c.push.new.self.items c.args.line c.args.fault numbers more c.in-Ok.length fits.some (c.in-Ok.ensures.said numbers taken) items
-    ∙ section-done after (number_said LengthLimit most_length) (λ (ls : List ℕ). in_potentials after now.sizes now.header.potentials (record (so_far now) { lengths = ls }) now.header.potentials) (now.left - 1) c.push.new.self.items more (omega (arith, c.if-self-gt0.false))
+    let fits = subst (λ (r : Role). IsInRole r now.header.potentials (so_far now) now.left) c.requires.role
+    c.requires.fine.in_role in
+    let items : c.push.new.self.items ≡ now.lengths.items ++ c.in-Ok.length ∷ [] =
+    search (rules, common_steps) in
+    ap (λ (r : Role). said_in r now.sizes now.header.potentials (so_far now) now.left after (line ∷ more))
+    c.requires.role
+    ∙ section-taken after (number_said LengthLimit most_length)
+    (λ (ls : List ℕ). in_potentials after now.sizes now.header.potentials (record (so_far now) {
+      lengths =
+          ls;
+    }) now.header.potentials) now.left now.lengths.items c.push.new.self.items c.args.line
+    c.args.fault numbers more c.in-Ok.length fits.some (c.in-Ok.ensures.said numbers taken) items
+    ∙ section-done after (number_said LengthLimit most_length)
+    (λ (ls : List ℕ). in_potentials after now.sizes now.header.potentials (record (so_far now) {
+      lengths =
+          ls;
+    }) now.header.potentials) (now.left - 1) c.push.new.self.items more
+    (omega (arith, c.if-self-gt0.false))
     ∙ sym (c.in_ok-begin_potentials-in-Ok.ensures.said after more)
 
 pub returns-in_ok-refuse-in-Err-clause-said : goal.returns-in_ok-refuse-in-Err-clause-said
 returns-in_ok-refuse-in-Err-clause-said c = λ numbers after more taken.
     let now = c.args.self.now in
     let line : Line = ended_line c.args.line c.args.fault numbers in
-    let fits = subst (λ (r : Role). IsInRole r now.header.potentials (so_far now) now.left) c.requires.role c.requires.fine.in_role in
+    let fits = subst (λ (r : Role). IsInRole r now.header.potentials (so_far now) now.left) c.requires.role
+    c.requires.fine.in_role in
     c.in_ok-refuse-in-Err.ensures.said _ after more
-    (subst (λ (r : Role). IsFaultOf c.in-Err.fault (said_in r now.sizes now.header.potentials (so_far now) now.left after (line ∷ more))) (sym c.requires.role)
-    (section-refused after (number_said LengthLimit most_length) (λ (ls : List ℕ). in_potentials after now.sizes now.header.potentials (record (so_far now) { lengths = ls }) now.header.potentials) now.left now.lengths.items c.args.line c.args.fault numbers more c.in-Err.fault fits.some (c.in-Err.ensures.said numbers taken)))
+    (subst (λ (r : Role). IsFaultOf c.in-Err.fault (said_in r now.sizes now.header.potentials
+    (so_far now) now.left after (line ∷ more))) (sym c.requires.role)
+    (section-refused after (number_said LengthLimit most_length)
+    (λ (ls : List ℕ). in_potentials after now.sizes now.header.potentials
+    (record (so_far now) { lengths = ls }) now.header.potentials) now.left now.lengths.items
+    c.args.line c.args.fault numbers more c.in-Err.fault fits.some (c.in-Err.ensures.said numbers taken)))

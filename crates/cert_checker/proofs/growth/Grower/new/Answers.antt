@@ -12,11 +12,16 @@ pub invariant_of-result : goal.invariant_of-result
 invariant_of-result c =
     let fpgas = c.args.graph.now.fpgas in
     let none : Option Label = None in
-    let whole : c.in_ok-lengths.lengths.items ≡ c.args.lengths.now = c.in_ok-lengths.ensures.items_if_clones_equal (search rules) in
-    let wires : c.in_ok-worn.worn.limit ≡ length c.in_ok-lengths.lengths.items = c.in_ok-worn.ensures.limit ∙ c.wires-wires.ensures.value ∙ sym c.requires.count ∙ sym (ap length whole) in
-    let labels : length c.in_ok-search.search.labels ≡ fpgas = ap length c.in_ok-search.ensures.labels ∙ length-replicate fpgas none in
-    let goals : length c.in_ok-search.search.goals ≡ fpgas = ap length c.in_ok-search.ensures.goals ∙ length-replicate fpgas false in
-    let near : c.in_ok-near.near.limit ≡ length c.in_ok-search.search.labels = c.in_ok-near.ensures.limit ∙ c.fpgas-fpgas.ensures.value ∙ sym labels in (
+    let whole : c.in_ok-lengths.lengths.items ≡ c.args.lengths.now =
+    c.in_ok-lengths.ensures.items_if_clones_equal (search rules) in
+    let wires : c.in_ok-worn.worn.limit ≡ length c.in_ok-lengths.lengths.items = c.in_ok-worn.ensures.limit
+    ∙ c.wires-wires.ensures.value ∙ sym c.requires.count ∙ sym (ap length whole) in
+    let labels : length c.in_ok-search.search.labels ≡ fpgas = ap length c.in_ok-search.ensures.labels
+    ∙ length-replicate fpgas none in
+    let goals : length c.in_ok-search.search.goals ≡ fpgas = ap length c.in_ok-search.ensures.goals
+    ∙ length-replicate fpgas false in
+    let near : c.in_ok-near.near.limit ≡ length c.in_ok-search.search.labels = c.in_ok-near.ensures.limit
+    ∙ c.fpgas-fpgas.ensures.value ∙ sym labels in (
       subst (λ (gs : List Bool). HasNoGoals gs) (sym c.in_ok-search.ensures.goals) (none-replicate fpgas),
       goals ∙ sym labels,
       search rules,
@@ -24,5 +29,6 @@ invariant_of-result c =
       c.in_ok-worn.ensures.listed,
       wires,
       near,
-      λ e. subst (λ (xs : List ℕ). slice_index xs e ≤ most_length) (sym whole) (all-small c.args.lengths.now most_length c.requires.small e),
+      λ e. subst (λ (xs : List ℕ). slice_index xs e ≤ most_length) (sym whole)
+          (all-small c.args.lengths.now most_length c.requires.small e),
     )

@@ -10,14 +10,21 @@ use Rattle.contest_input.proofs.roles.BoardState.take_wire.Goals as goal
 pub returns-then-self-gt0-clause-said : goal.returns-then-self-gt0-clause-said
 returns-then-self-gt0-clause-said c = λ n end more.
     let now = c.args.self.now in
-    let pushed = c.in_ok-push_wire.ensures.ok ∙ ap (λ (w : Wire). record now.draft { wires = now.draft.wires ++ w ∷ [] }) (c.wire_of-wire.ensures.wire ∙ ap wire_of c.deref.ensures.value) in
-    wires-take now.sizes now.draft c.push_wire.new.self now.left end (plain_line n now.numbers.items) more c.requires.there.some c.requires.clean pushed
-    ∙ ap (λ (r : Role). said_in r now.sizes c.push_wire.new.self (now.left - 1) now.listed end more) (sym c.requires.role)
+    let pushed = c.in_ok-push_wire.ensures.ok
+    ∙ ap (λ (w : Wire). record now.draft { wires = now.draft.wires ++ w ∷ [] })
+    (c.wire_of-wire.ensures.wire ∙ ap wire_of c.deref.ensures.value) in
+    wires-take now.sizes now.draft c.push_wire.new.self now.left end (plain_line n now.numbers.items) more
+    c.requires.there.some c.requires.clean pushed
+    ∙ ap (λ (r : Role). said_in r now.sizes c.push_wire.new.self (now.left - 1) now.listed end more)
+    (sym c.requires.role)
 
 pub returns-clause-said : goal.returns-clause-said
 returns-clause-said c = λ n end more.
     let now = c.args.self.now in
-    let pushed = c.in_ok-push_wire.ensures.ok ∙ ap (λ (w : Wire). record now.draft { wires = now.draft.wires ++ w ∷ [] }) (c.wire_of-wire.ensures.wire ∙ ap wire_of c.deref.ensures.value) in
-    wires-take now.sizes now.draft c.push_wire.new.self now.left end (plain_line n now.numbers.items) more c.requires.there.some c.requires.clean pushed
+    let pushed = c.in_ok-push_wire.ensures.ok
+    ∙ ap (λ (w : Wire). record now.draft { wires = now.draft.wires ++ w ∷ [] })
+    (c.wire_of-wire.ensures.wire ∙ ap wire_of c.deref.ensures.value) in
+    wires-take now.sizes now.draft c.push_wire.new.self now.left end (plain_line n now.numbers.items) more
+    c.requires.there.some c.requires.clean pushed
     ∙ wires-done now.sizes c.push_wire.new.self (now.left - 1) end more (omega arith)
     ∙ sym (c.begin_nets.ensures.said end more)

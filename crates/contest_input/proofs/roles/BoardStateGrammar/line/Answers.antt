@@ -12,13 +12,16 @@ returns-in-Some-clause-reads c = λ done numbers reads some known end more.
     let line : Line = ended_line c.args.line c.args.fault numbers in
     ap (board_of_lines end) (append_assoc done (line ∷ []) more) ∙ reads end (line ∷ more)
     ∙ said-refused g.role g.sizes g.draft g.left g.listed end line more c.in-Some.kind c.requires.fits
-    (sym (judged g.sizes g.listed c.args.line g.role c.args.fault g.numbers.items numbers (λ none. (known none).1)) ∙ sym (c.line_fault.ensures c.args.line) ∙ c.in-Some.is)
-    ∙ ap (λ (n : ℕ). Err (record { kind = c.in-Some.kind; line = n })) (number-is c.args.line c.args.fault numbers)
+    (sym (judged g.sizes g.listed c.args.line g.role c.args.fault g.numbers.items numbers
+    (λ none. (known none).1)) ∙ sym (c.line_fault.ensures c.args.line) ∙ c.in-Some.is)
+    ∙ ap (λ (n : ℕ). Err (record { kind = c.in-Some.kind; line = n }))
+    (number-is c.args.line c.args.fault numbers)
 
 pub take-requires-clause-clean : goal.take-requires-clause-clean
 take-requires-clause-clean c =
     let g = c.args.self.now in
-    clean-plain g.role g.sizes g.listed 0 0 c.args.fault g.numbers.items (sym (c.line_fault.ensures 0) ∙ c.in_default.is)
+    clean-plain g.role g.sizes g.listed 0 0 c.args.fault g.numbers.items (sym (c.line_fault.ensures 0)
+    ∙ c.in_default.is)
 
 pub returns-clause-reads : goal.returns-clause-reads
 returns-clause-reads c = λ done numbers reads some known end more.
@@ -26,5 +29,7 @@ returns-clause-reads c = λ done numbers reads some known end more.
     let h = c.take.new.self in
     let line : Line = ended_line c.args.line c.args.fault numbers in
     ap (board_of_lines end) (append_assoc done (line ∷ []) more) ∙ reads end (line ∷ more)
-    ∙ taken-line g.role g.sizes g.draft g.left g.listed h.role h.sizes h.draft h.left h.listed c.args.line c.args.fault g.numbers.items numbers c.args._count some (λ none. ((known none).0, (known none).1))
-    (sym (c.line_fault.ensures c.args.line) ∙ c.in_default.is) c.in_ok-take.ensures.stays c.in_ok-take.ensures.said end more
+    ∙ taken-line g.role g.sizes g.draft g.left g.listed h.role h.sizes h.draft h.left h.listed c.args.line
+    c.args.fault g.numbers.items numbers c.args._count some (λ none. ((known none).0, (known none).1))
+    (sym (c.line_fault.ensures c.args.line) ∙ c.in_default.is) c.in_ok-take.ensures.stays
+    c.in_ok-take.ensures.said end more

@@ -8,16 +8,23 @@ start_of-start-requires g c = rw c.deref.ensures.value (end-there _ _ c.self.vie
 
 pub index-requires : goal.index-requires
 index-requires g c =
-    omega (arith, c.deref.ensures.len, ap length c.deref.ensures.value, end-there c.self.inside.ends.items c.self.inside.items.items c.self.view_is c.requires)
+    omega (
+      arith,
+      c.deref.ensures.len,
+      ap length c.deref.ensures.value,
+      end-there c.self.inside.ends.items c.self.inside.items.items c.self.view_is c.requires,
+    )
 
 pub between-requires : goal.between-requires
 between-requires g c =
-    let starts = c.start_of-start.ensures ∙ ap (λ (ends : List _). start_of_row 0 ends c.args.i) c.deref.ensures.value in
+    let starts = c.start_of-start.ensures
+    ∙ ap (λ (ends : List _). start_of_row 0 ends c.args.i) c.deref.ensures.value in
     let row = stands_at _ _ c.self.view_is c.self.invariant c.requires starts c.index.ensures in
     record { rises = row.rises; within = omega (arith, row.within, ap length c.deref-2.ensures.value) }
 
 pub returns : goal.returns
 returns g c =
-    let starts = c.start_of-start.ensures ∙ ap (λ (ends : List _). start_of_row 0 ends c.args.i) c.deref.ensures.value in
+    let starts = c.start_of-start.ensures
+    ∙ ap (λ (ends : List _). start_of_row 0 ends c.args.i) c.deref.ensures.value in
     let row = stands_at _ _ c.self.view_is c.self.invariant c.requires starts c.index.ensures in
     rw (c.between.ensures, c.deref-2.ensures.value) (record { there = row.there; value = row.value })

@@ -3,4 +3,9 @@ use Rattle.flat_rows.proofs.CutRows.{length-rows_from}
 use Rattle.flat_rows.proofs.rows.FlatRows.rows.Goals as goal
 
 pub returns : goal.returns
-returns g c = omega (arith, c.len.ensures, ap length c.self.view_is, length-rows_from 0 c.self.inside.ends.items c.self.inside.items.items)
+returns g c = omega (
+  arith,
+  c.len.ensures,
+  ap length c.self.view_is,
+  length-rows_from 0 c.self.inside.ends.items c.self.inside.items.items,
+)

@@ -9,10 +9,12 @@ overflow_cast-result c =
     let few = length-le-items_of c.self.inside.counts.entries c.self.invariant.positive in omega arith
 
 pub returns-clause-number : goal.returns-clause-number
-returns-clause-number c = c.len.ensures.len ∙ sym (len-seen c.self.inside.counts.entries c.self.invariant.ordered) ∙ ap map.len c.self.view_is
+returns-clause-number c = c.len.ensures.len
+    ∙ sym (len-seen c.self.inside.counts.entries c.self.invariant.ordered) ∙ ap map.len c.self.view_is
 
 pub returns-clause-positive : goal.returns-clause-positive
 returns-clause-positive c =
     let es = c.self.inside.counts.entries in
     subst (λ m. All IsCounted (map.entries m)) c.self.view_is
-    (subst (λ es. All IsCounted es) (sym (entries-seen es c.self.invariant.ordered)) (All-counted es c.self.invariant.ratios c.self.invariant.positive))
+    (subst (λ es. All IsCounted es) (sym (entries-seen es c.self.invariant.ordered))
+    (All-counted es c.self.invariant.ratios c.self.invariant.positive))

@@ -6,5 +6,6 @@ use Rattle.recip_sum.proofs.counts.Counts.floor_sum.Goals as goal
 
 pub returns : goal.returns
 returns c =
-    c.self.invariant.rounded ∙ sym (ap floor_sum (items-seen c.self.inside.counts.entries c.self.invariant.ordered))
+    c.self.invariant.rounded
+    ∙ sym (ap floor_sum (items-seen c.self.inside.counts.entries c.self.invariant.ordered))
     ∙ ap (λ counts. floor_sum (items counts)) c.self.view_is

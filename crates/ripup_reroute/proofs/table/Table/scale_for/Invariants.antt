@@ -6,5 +6,6 @@ use Rattle.ripup_reroute.proofs.table.Table.scale_for.Given as goal
 abbrev pub invariant-loop-e : goal.invariant-loop-e
 invariant-loop-e l = record {
   least : l.scale ≤ l.self.scale;
-  scaled : (e : ℕ) → Contains (take l.e-index l.wires) e → tabled_length l.self e * l.scale ≤ 4096 * (2 * slice_index l.lengths.loads.now e + l.lengths.own);
+  scaled : (e : ℕ) → Contains (take l.e-index l.wires) e → tabled_length l.self e * l.scale
+      ≤ 4096 * (2 * slice_index l.lengths.loads.now e + l.lengths.own);
 }

@@ -8,5 +8,6 @@ invariant-loop-t l = record {
   room : length l.waiting ≡ 6;
   few : l.left ≤ l.t-index;
   there : All (λ t. t < l.table.fpgas) l.waiting;
-  among : (k : ℕ) → k < l.t-index → get_or l.terminals k 0 ≢ l.start → IsAmong l.waiting l.left (get_or l.terminals k 0);
+  among : (k : ℕ) → k < l.t-index → get_or l.terminals k 0 ≢ l.start
+      → IsAmong l.waiting l.left (get_or l.terminals k 0);
 }

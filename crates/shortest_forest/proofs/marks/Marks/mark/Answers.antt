@@ -9,5 +9,5 @@ returns c =
     let present = c.self.inside.present in
     map-set (λ k. k == present) c.self.inside.numbers.items c.args.f present
     ∙ ap (λ m. set (map (λ k. k == present) c.self.inside.numbers.items) c.args.f m)
-        (eq-eqb present present refl)
+    (eq-eqb present present refl)
     ∙ ap (λ marks. set marks c.args.f true) c.self.view_is

@@ -13,7 +13,8 @@ returns-clause-lowered c =
     let entry : Reverse (ℕ × ℕ) = record { 0 = (c.args.key, c.args.f) } in
     let P : List (Reverse (ℕ × ℕ)) → Type 0 = λ q. IsPermutation (entry ∷ q) (heap_items c.push.new.self) in
     record {
-      labels = labels_set c.self.inside.stamp c.self.inside.labels.items c.args.f c.args.distance c.args.wire ∙ ap (λ (s : Labels). set s.labels c.args.f l) c.self.view_is;
+      labels = labels_set c.self.inside.stamp c.self.inside.labels.items c.args.f c.args.distance c.args.wire
+          ∙ ap (λ (s : Labels). set s.labels c.args.f l) c.self.view_is;
       goals = ap (λ (s : Labels). s.goals) c.self.view_is;
       queue = subst P (ap (λ (s : Labels). s.queue) c.self.view_is) c.in_ok-push.ensures.permutation;
     }

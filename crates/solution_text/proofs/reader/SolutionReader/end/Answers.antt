@@ -24,7 +24,8 @@ said board text end state sizes whole =
     ∙ ap (nets_from state.wires end state.nets) (sym (append-nil (lines largest_number text))) ∙ whole.read end []
 
 -- the text says what the state says where it ends
-whole : (c : In_ok-state) (board : Board) (text : List ℕ) → IsAt c.args.self board text → solution_of board text ≡ said_of c.in_ok-state.state c.in_ok-state.end []
+whole : (c : In_ok-state) (board : Board) (text : List ℕ) → IsAt c.args.self board text
+    → solution_of board text ≡ said_of c.in_ok-state.state c.in_ok-state.end []
 whole c board text there =
     let inside = subst (λ (r : Reading SolutionState). IsAt r board text) (sym c.self.view_is) there in
     said board text c.in_ok-state.end c.in_ok-state.state (c.in_ok-state.ensures.sizes ∙ inside.sizes) (c.in_ok-state.ensures.read text inside.fed_is)

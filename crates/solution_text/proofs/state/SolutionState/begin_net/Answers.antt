@@ -8,13 +8,16 @@ use Rattle.solution_text.proofs.state.SolutionState.begin_net.Goals as goal
 pub end_net-requires-clause-marks : goal.end_net-requires-clause-marks
 end_net-requires-clause-marks c =
     let now = c.args.self.now in
-    let small = subst (λ (r : Role). IsStamped r now.wires (length now.solution) now.left now.count now.stamps.items now.uses.items) c.requires.role c.requires.fine.stamped in
-    marks-first _ _ (length now.solution) (c.in_ok-make_stamps.ensures.small (length now.solution) small) c.clear.ensures.items
+    let small = subst (λ (r : Role). IsStamped r now.wires (length now.solution) now.left now.count
+    now.stamps.items now.uses.items) c.requires.role c.requires.fine.stamped in
+    marks-first _ _ (length now.solution) (c.in_ok-make_stamps.ensures.small (length now.solution) small)
+    c.clear.ensures.items
 
 pub returns-clause-fine : goal.returns-clause-fine
 returns-clause-fine c =
     let now = c.args.self.now in
-    let small = subst (λ (r : Role). IsStamped r now.wires (length now.solution) now.left now.count now.stamps.items now.uses.items) c.requires.role c.requires.fine.stamped in
+    let small = subst (λ (r : Role). IsStamped r now.wires (length now.solution) now.left now.count
+    now.stamps.items now.uses.items) c.requires.role c.requires.fine.stamped in
     record {
       most = c.requires.fine.most;
       largest = c.requires.fine.largest;
@@ -24,6 +27,7 @@ returns-clause-fine c =
         c.requires.some,
         grind (arith, common_steps),
         c.in_ok-make_stamps.ensures.count,
-        marks-first _ _ (length now.solution) (c.in_ok-make_stamps.ensures.small (length now.solution) small) c.clear.ensures.items,
+        marks-first _ _ (length now.solution) (c.in_ok-make_stamps.ensures.small (length now.solution) small)
+            c.clear.ensures.items,
       );
     }

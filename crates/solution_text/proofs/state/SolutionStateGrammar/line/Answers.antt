@@ -12,5 +12,8 @@ returns-clause-reads c = λ done numbers reads some known after more.
     let line : Line = ended_line c.args.line c.args.fault numbers in
     ap (λ (w : ℕ). nets_from w after next.nets ((done ++ line ∷ []) ++ more)) c.take.ensures.wires
     ∙ ap (λ (n : ℕ). nets_from now.wires after n ((done ++ line ∷ []) ++ more)) c.take.ensures.nets
-    ∙ ap (λ (ls : List Line). nets_from now.wires after now.nets ls) (append_assoc done (line ∷ []) more) ∙ reads after (line ∷ more)
-    ∙ c.in_ok-take.ensures.said numbers after more (λ none. first-three now.numbers numbers c.requires.most c.requires.largest (known none).1 (known none).2)
+    ∙ ap (λ (ls : List Line). nets_from now.wires after now.nets ls) (append_assoc done (line ∷ []) more)
+    ∙ reads after (line ∷ more)
+    ∙ c.in_ok-take.ensures.said numbers after more
+    (λ none. first-three now.numbers numbers c.requires.most c.requires.largest (known none).1
+    (known none).2)

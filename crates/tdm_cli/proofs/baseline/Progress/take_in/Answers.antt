@@ -16,8 +16,10 @@ keep-requires-clause-rising c =
 pub returns-in_ok-push-in-None : goal.returns-in_ok-push-in-None
 returns-in_ok-push-in-None c =
     let apart = (rw c.in-None.is at c.in_ok-base_tree.ensures.none) c.args.problem.now c.requires.board in
-    let next = progress-missing c.args.problem.now c.args.n _ _ _ c.requires.so_far (λ joined. apart (subst (IsConnectable c.args.problem.now) c.net.ensures.value joined)) in
-    subst (IsProgress c.args.problem.now (c.args.n + 1) c.args.self.now.trees c.args.self.now.used) (sym c.in_ok-push-in-None.ensures.items) next
+    let next = progress-missing c.args.problem.now c.args.n _ _ _ c.requires.so_far
+    (λ joined. apart (subst (IsConnectable c.args.problem.now) c.net.ensures.value joined)) in
+    subst (IsProgress c.args.problem.now (c.args.n + 1) c.args.self.now.trees c.args.self.now.used)
+    (sym c.in_ok-push-in-None.ensures.items) next
 
 pub returns-in_ok-keep-in-Some : goal.returns-in_ok-keep-in-Some
 returns-in_ok-keep-in-Some c =
@@ -25,5 +27,7 @@ returns-in_ok-keep-in-Some c =
     let joined = (rw c.in-Some.is at c.in_ok-base_tree.ensures.some) c.args.problem.now c.requires.board in
     c.in_ok-keep-in-Some.ensures c.args.problem.now c.args.n c.requires.so_far
     (subst (IsConnectable c.args.problem.now) (sym c.net.ensures.value) joined)
-    (subst (IsBaseTree c.args.problem.now (source_of c.args.problem.now c.args.n) (terminals_of c.args.problem.now c.args.n)) (sym c.deref.ensures.value)
-    (base-at c.args.problem.now c.args.n c.args.forest.now.root c.net.result.now _ c.requires.root c.net.ensures.value base))
+    (subst (IsBaseTree c.args.problem.now (source_of c.args.problem.now c.args.n)
+    (terminals_of c.args.problem.now c.args.n)) (sym c.deref.ensures.value)
+    (base-at c.args.problem.now c.args.n c.args.forest.now.root c.net.result.now _ c.requires.root
+    c.net.ensures.value base))

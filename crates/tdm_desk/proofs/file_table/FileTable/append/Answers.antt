@@ -9,13 +9,15 @@ pub returns-in_err-extend_from_slice-clause-err : goal.returns-in_err-extend_fro
 returns-in_err-extend_from_slice-clause-err c =
     let p = err_from_is_err_and c.from_residual.result c.from_residual.ensures.1 in
     rw p.1 (files-kept _ _ _ c.index_mut.result.now _ _
-    (is_first _ _ _ _ c.as_slice.ensures.value c.in-Some.ensures.within c.in-Some.ensures.first c.in-Some.ensures.there)
+    (is_first _ _ _ _ c.as_slice.ensures.value c.in-Some.ensures.within c.in-Some.ensures.first
+    c.in-Some.ensures.there)
     c.index_mut.ensures.value refl c.in_err-extend_from_slice.ensures.items c.self.view_is)
 
 pub returns-in_ok-extend_from_slice-clause-ok : goal.returns-in_ok-extend_from_slice-clause-ok
 returns-in_ok-extend_from_slice-clause-ok c =
     files-append _ _ _ _ c.index_mut.result.now _ _
-    (is_first _ _ _ _ c.as_slice.ensures.value c.in-Some.ensures.within c.in-Some.ensures.first c.in-Some.ensures.there)
+    (is_first _ _ _ _ c.as_slice.ensures.value c.in-Some.ensures.within c.in-Some.ensures.first
+    c.in-Some.ensures.there)
     c.index_mut.ensures.value refl c.in_ok-extend_from_slice.ensures.items c.self.view_is
 
 pub returns-in_default-clause-ok : goal.returns-in_default-clause-ok

@@ -28,4 +28,5 @@ returns-clause-ok c = on_ok_weaker c.append.result (λ appended name is.
       outputs = map_slots (option_map string_bytes) c.self.inside.outputs;
       said = c.self.inside.report.items;
     }) (appended ∙ ap (λ n. with_more n c.args.more.now c.self.inside.files) (c.as_str.ensures.value ∙ same))
-    ∙ ap (λ (m : Memory). record m { files = with_more name c.args.more.now m.files }) c.self.view_is) c.append.ensures.ok
+    ∙ ap (λ (m : Memory). record m { files = with_more name c.args.more.now m.files }) c.self.view_is)
+    c.append.ensures.ok

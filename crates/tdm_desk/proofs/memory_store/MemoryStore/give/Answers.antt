@@ -8,7 +8,8 @@ use Rattle.tdm_desk.proofs.memory_store.MemoryStore.give.Goals as goal
 pub returns-clause-rest : goal.returns-clause-rest
 returns-clause-rest c = λ rest is.
     let there : Some c.in-Some.input ≡ Some rest =
-    sym c.in-Some.is ∙ c.replace.ensures.before ∙ ap (λ (m : Memory). at c.args.place m.inputs) c.self.view_is ∙ is in
+    sym c.in-Some.is ∙ c.replace.ensures.before ∙ ap (λ (m : Memory). at c.args.place m.inputs) c.self.view_is
+    ∙ is in
     let same : c.in-Some.input ≡ rest = cc in
     ap (λ inputs. record {
       files = c.self.inside.files;
@@ -18,5 +19,9 @@ returns-clause-rest c = λ rest is.
     }) (c.put.ensures
     ∙ ap (put c.args.place (Some c.give-count.new.self)) c.replace.ensures.after
     ∙ put-put c.args.place None (Some c.give-count.new.self) c.self.inside.inputs
-    ∙ ap (λ b. put c.args.place (Some b) c.self.inside.inputs) (c.give-count.ensures.rest ∙ ap (drop c.give-count.result) same))
-    ∙ ap (λ (m : Memory). record m { inputs = put c.args.place (Some (drop c.give-count.result rest)) m.inputs }) c.self.view_is
+    ∙ ap (λ b. put c.args.place (Some b) c.self.inside.inputs) (c.give-count.ensures.rest
+    ∙ ap (drop c.give-count.result) same))
+    ∙ ap (λ (m : Memory). record m {
+      inputs =
+          put c.args.place (Some (drop c.give-count.result rest)) m.inputs;
+    }) c.self.view_is

@@ -12,5 +12,9 @@ returns c =
       inputs = c.self.inside.inputs;
       outputs = outputs;
       said = c.self.inside.report.items;
-    }) (ap (map_slots (option_map string_bytes)) c.put.ensures ∙ map-put (option_map string_bytes) c.args.place c.args.name c.self.inside.outputs)
-    ∙ ap (λ (m : Memory). record m { outputs = put c.args.place (option_map string_bytes c.args.name) m.outputs }) c.self.view_is
+    }) (ap (map_slots (option_map string_bytes)) c.put.ensures
+    ∙ map-put (option_map string_bytes) c.args.place c.args.name c.self.inside.outputs)
+    ∙ ap (λ (m : Memory). record m {
+      outputs =
+          put c.args.place (option_map string_bytes c.args.name) m.outputs;
+    }) c.self.view_is

@@ -17,5 +17,6 @@ returns g c =
       counts = c.self.inside.faults;
       inputs = map_slots is_some c.self.inside.inputs;
       outputs = outputs;
-    }) (ap (map_slots is_some) c.replace.ensures.after ∙ map-put is_some c.args.place None c.self.inside.outputs)
+    }) (ap (map_slots is_some) c.replace.ensures.after
+    ∙ map-put is_some c.args.place None c.self.inside.outputs)
     ∙ ap (λ (d : RealDesk). record d { outputs = put c.args.place false d.outputs }) c.self.view_is

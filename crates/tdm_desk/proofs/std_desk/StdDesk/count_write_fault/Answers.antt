@@ -7,10 +7,13 @@ use Rattle.tdm_desk.proofs.std_desk.StdDesk.count_write_fault.Goals as goal
 
 -- the fault was counted
 fault : (g : _) (c : goal.After-count_write g) → c.count_write.new.self ≡ write_counted c.args.self.now.counts
-fault g c = subst (λ (counts : Counts). c.count_write.new.self ≡ write_counted counts) (ap (λ (d : RealDesk). d.counts) c.self.view_is) c.count_write.ensures
+fault g c = subst (λ (counts : Counts). c.count_write.new.self ≡ write_counted counts)
+    (ap (λ (d : RealDesk). d.counts) c.self.view_is) c.count_write.ensures
 
 pub returns-clause-seen : goal.returns-clause-seen
-returns-clause-seen g c = seen_counted _ c.args.self.now _ (ap (λ (d : RealDesk). record d { counts = c.count_write.new.self }) c.self.view_is)
+returns-clause-seen g c =
+    seen_counted _ c.args.self.now _ (ap (λ (d : RealDesk). record d { counts = c.count_write.new.self })
+    c.self.view_is)
 
 pub returns-clause-failed : goal.returns-clause-failed
 returns-clause-failed g c = write_fault_failed counts_of_real never c.args.self.now _ (λ is. is) (fault g c)

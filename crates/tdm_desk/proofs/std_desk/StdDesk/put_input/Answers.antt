@@ -12,4 +12,5 @@ returns g c =
       inputs = inputs;
       outputs = map_slots is_some c.self.inside.outputs;
     }) (ap (map_slots is_some) c.put.ensures ∙ map-put is_some c.args.place c.args.file c.self.inside.inputs)
-    ∙ ap (λ (d : RealDesk). record d { inputs = put c.args.place (is_some c.args.file) d.inputs }) c.self.view_is
+    ∙ ap (λ (d : RealDesk). record d { inputs = put c.args.place (is_some c.args.file) d.inputs })
+    c.self.view_is

@@ -12,4 +12,5 @@ returns g c =
       inputs = map_slots is_some c.self.inside.inputs;
       outputs = outputs;
     }) (ap (map_slots is_some) c.put.ensures ∙ map-put is_some c.args.place c.args.file c.self.inside.outputs)
-    ∙ ap (λ (d : RealDesk). record d { outputs = put c.args.place (is_some c.args.file) d.outputs }) c.self.view_is
+    ∙ ap (λ (d : RealDesk). record d { outputs = put c.args.place (is_some c.args.file) d.outputs })
+    c.self.view_is

@@ -10,5 +10,7 @@ returns-clause-stands g c = λ text stands.
     let end : ℕ = c.push_token-end.result in
     let piece : List ℕ = c.args.piece.now in
     let run : List ℕ = slice_range piece c.args.at end in
-    let more : now.fed + (end - c.args.at) ≡ now.fed + length run = ap (λ (n : ℕ). now.fed + n) (sym (length-range_is piece c.args.at end taken.within)) in
-    stands-run now.scan c.push_token-end.new.self now.fed (now.fed + (end - c.args.at)) now.fault now.count now.grammar text run taken.token more taken.max taken.line taken.stands stands
+    let more : now.fed + (end - c.args.at) ≡ now.fed + length run =
+    ap (λ (n : ℕ). now.fed + n) (sym (length-range_is piece c.args.at end taken.within)) in
+    stands-run now.scan c.push_token-end.new.self now.fed (now.fed + (end - c.args.at)) now.fault now.count
+    now.grammar text run taken.token more taken.max taken.line taken.stands stands

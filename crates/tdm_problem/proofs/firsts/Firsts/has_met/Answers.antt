@@ -4,7 +4,8 @@ use Rattle.tdm_problem.proofs.firsts.Firsts.has_met.Goals as goal
 
 pub returns-then-place-len : goal.returns-then-place-len
 returns-then-place-len c =
-    met_by_place c.args.self.now.places.items c.args.self.now.kept.items c.args.x c.index.result.now c.index-then-place-len.result.now
+    met_by_place c.args.self.now.places.items c.args.self.now.kept.items c.args.x c.index.result.now
+    c.index-then-place-len.result.now
     c.requires.indexed (omega arith) c.index.ensures (omega arith) c.index-then-place-len.ensures
 
 pub returns-else-place-len : goal.returns-else-place-len
