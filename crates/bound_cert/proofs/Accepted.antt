@@ -160,7 +160,8 @@ AreWithin-lines_from largest n (piece ∷ more) =
     AreWithin-put_line largest n (tokens piece) (lines_from largest (n + 1) more)
     (AreWithin-lines_from largest (n + 1) more)
 
-unless_bad-ok : (fault : Option TokenFault) (line : Line) (more : List Line) (out : Line × List Line) → unless_bad of_token fault line more ≡ Ok out → (line, more) ≡ out
+unless_bad-ok : (fault : Option TokenFault) (line : Line) (more : List Line) (out : Line × List Line)
+    → unless_bad of_token fault line more ≡ Ok out → (line, more) ≡ out
 unless_bad-ok None line more out ok = ok-equal (line, more) out ok
 unless_bad-ok (Some bad) line more out ok = absurd (cc)
 

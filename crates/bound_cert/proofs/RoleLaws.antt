@@ -26,7 +26,9 @@ use Rattle.bound_cert.specs.Roles.{line_said, in_section, from_header, past_head
 -- ---- one line
 
 -- a line is refused for its tokens
-pub fault-first : {A : Type 0} (said : ℕ → List ℕ → Result A CertRefusal) (fault : CertFault) (n : ℕ) (tokens : Option TokenFault) (numbers : List ℕ) → IsFaultOf fault (clean of_token n tokens) → IsFaultOf fault (line_said said n tokens numbers)
+pub fault-first : {A : Type 0} (said : ℕ → List ℕ → Result A CertRefusal) (fault : CertFault) (n : ℕ)
+    (tokens : Option TokenFault) (numbers : List ℕ) → IsFaultOf fault (clean of_token n tokens)
+    → IsFaultOf fault (line_said said n tokens numbers)
 fault-first said NoMemory n tokens numbers is = tt
 fault-first said (Refused refusal) n tokens numbers is = rw is refl
 
@@ -164,9 +166,13 @@ through : {A : Type 0} (next : A → List Line → Result Cert CertRefusal) (mor
 through next more (Ok x) = refl
 through next more (Err refusal) = refl
 
-header-line : (after : ℕ) (sizes : Sizes) (n : ℕ) (fault : Option TokenFault) (numbers : List ℕ) (more : List Line)
-    → from_header after sizes (ended_line n fault numbers ∷ more) ≡ (line_said (header_said sizes.fpgas) n fault numbers >>= λ header. past_header after sizes header more)
-header-line after sizes n None numbers more = through (past_header after sizes) more (header_said sizes.fpgas n numbers)
+header-line : (after : ℕ) (sizes : Sizes) (n : ℕ) (fault : Option TokenFault) (numbers : List ℕ)
+    (more : List Line)
+    → from_header after sizes (ended_line n fault numbers ∷ more)
+    ≡ (line_said (header_said sizes.fpgas) n fault numbers >>= λ header. past_header after sizes header
+    more)
+header-line after sizes n None numbers more =
+    through (past_header after sizes) more (header_said sizes.fpgas n numbers)
 header-line after sizes n (Some f) numbers more = refl
 
 pub header-refused : (after : ℕ) (sizes : Sizes) (n : ℕ) (tokens : Option TokenFault) (numbers : List ℕ)

@@ -21,7 +21,8 @@ sizes_of board = record {
 abbrev pub listed : Sizes → List ℕ
 listed sizes = sizes.fpgas ∷ sizes.groups ∷ sizes.wires ∷ sizes.nets ∷ []
 
--- the reader is for this board, is not spent, and was fed this text: whatever comes, the text says what the reader's state says of that
+-- the reader is for this board, is not spent, and was fed this text: whatever comes, the text says what the
+-- reader's state says of that
 pub record IsAt (reader : Reading CertState) (board : Board) (text : List ℕ) : Type 0 where
   pub sizes : listed reader.grammar.sizes ≡ listed (sizes_of board)
   pub fed_is : IsFed Reads Holds most_potential_value reader text

@@ -1,4 +1,5 @@
--- Where a certificate text stands: what its lines so far have said, and what the lines that still come make of that.
+-- Where a certificate text stands: what its lines so far have said, and what the lines that still come make
+-- of that.
 use Rattle.std.specs.Prelude.{◌≡◌, ℕ, true, false, ◌+◌, ◌<◌, ◌≤◌, List, [], ◌∷◌, ◌++◌, length, take, All, Option, None, Result, Err}
 use Rattle.tdm_lines.specs.declared.line.TokenFault.{TokenFault}
 use Rattle.tdm_lines.specs.FirstNumbers.{Firsts, AreFirst}
@@ -18,7 +19,8 @@ use Rattle.bound_cert.specs.CertReading.{header_said, number_said, potential_sai
 use Rattle.bound_cert.specs.Limits.{most_weight, most_length, most_potentials, most_potential_value}
 
 -- what line n says, by what its numbers say
-abbrev pub line_said : {A : Type 0} → (ℕ → List ℕ → Result A CertRefusal) → ℕ → Option TokenFault → List ℕ → Result A CertRefusal
+abbrev pub line_said : {A : Type 0} → (ℕ → List ℕ → Result A CertRefusal) → ℕ → Option TokenFault → List ℕ
+    → Result A CertRefusal
 line_said said n fault numbers = said_of_line of_token said n fault numbers
 
 -- ---- the lines that still come

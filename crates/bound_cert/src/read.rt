@@ -14,9 +14,9 @@ use tdm_problem::Problem;
 /// The most bytes of a certificate text, which are 2^30.
 pub const MAX_CERT_BYTES: usize = 1_073_741_824;
 
-/// Reads the text of a certificate for the problem: a header of the version, the kind, its unit and the number of
-/// potentials, then a line for each weight, for each length unless the certificate is by hops, for each potential
-/// and, unless nets grow, for each choice of a net.
+/// Reads the text of a certificate for the problem: a header of the version, the kind, its unit and the
+/// number of potentials, then a line for each weight, for each length unless the certificate is by hops, for
+/// each potential and, unless nets grow, for each choice of a net.
 ///
 /// Whether the potentials are valid is not asked. A text of more than 2^30 bytes may be cut one byte past
 /// them, since it is refused all the same.

@@ -74,7 +74,9 @@ clean-plain role.End sizes listed n m fault numbers is = absurd (cc)
 clean-plain (role.Refused why) sizes listed n m fault numbers is = refl
 
 -- a line whose tokens are at fault is no further fault of a refused text alone
-pub refused-there : (r : Role) (sizes : Sizes) (listed n : ℕ) (f : TokenFault) (numbers : List ℕ) → line_kind r sizes listed (ended_line n (Some f) numbers) ≡ None → (why : BoardRefusal) × (r ≡ role.Refused why)
+pub refused-there : (r : Role) (sizes : Sizes) (listed n : ℕ) (f : TokenFault) (numbers : List ℕ)
+    → line_kind r sizes listed (ended_line n (Some f) numbers) ≡ None → (why : BoardRefusal)
+    × (r ≡ role.Refused why)
 refused-there role.Header sizes listed n f numbers is = absurd (cc)
 refused-there role.Wire sizes listed n f numbers is = absurd (cc)
 refused-there role.Net sizes listed n f numbers is = absurd (cc)

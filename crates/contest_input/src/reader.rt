@@ -67,8 +67,10 @@ impl BoardReader {
     /// Ends the text, and answers what it says. A reader that is spent answers NoMemory.
     pub fn end(self) -> Result<Problem, BoardFault>
         ensures stays { self.spent ≡ true → result ≡ Err NoMemory }
-        ensures board { IfOk result (λ problem. (text : List ℕ) → IsAt self text → board_of text ≡ Ok problem) }
-        ensures refused { IfErr result (λ fault. (text : List ℕ) → IsAt self text → IsFaultOf fault (board_of text)) }
+        ensures board { IfOk result (λ problem. (text : List ℕ) → IsAt self text
+            → board_of text ≡ Ok problem) }
+        ensures refused { IfErr result (λ fault. (text : List ℕ) → IsAt self text
+            → IsFaultOf fault (board_of text)) }
     {
         let most = MAX_BOARD_BYTES as u64;
         let (state, end) = self.reading.finish(most, BoardKind::TooLong)?;

@@ -88,7 +88,8 @@ module _ (wires after : ℕ) (routing : Routing) where
   count-law zero n (Some f) numbers more = refl
   count-law (suc left) n None numbers more =
       let one : left ≡ suc left - 1 = omega arith in
-      count-said left n (count_said n numbers) more ∙ ap (λ k. count_said n numbers >>= λ count. from_use wires after routing [] count k more) one
+      count-said left n (count_said n numbers) more
+      ∙ ap (λ k. count_said n numbers >>= λ count. from_use wires after routing [] count k more) one
   count-law (suc left) n (Some f) numbers more = refl
 
   -- a use line

@@ -6,14 +6,17 @@ use Rattle.tdm_lines.specs.declared.reading.Reading.{Reading}
 use Rattle.tdm_lines.specs.declared.refusal.ReadingFault.{ReadingFault}
 use Rattle.tdm_lines.specs.declared.refusal.ReadingFault.TheVariants.{Refused, NoMemory}
 
--- the reading is not spent, and was fed this text: whatever comes, the text says what the reading's state says of that
-pub record IsFed {G : Type 0} (reads : G → List Line → Type 0) (holds : G → List ℕ → Type 0) (largest : ℕ) (reading : Reading G) (text : List ℕ) : Type 0 where
+-- the reading is not spent, and was fed this text: whatever comes, the text says what the reading's state
+-- says of that
+pub record IsFed {G : Type 0} (reads : G → List Line → Type 0) (holds : G → List ℕ → Type 0) (largest : ℕ)
+    (reading : Reading G) (text : List ℕ) : Type 0 where
   pub kept : reading.spent ≡ false
   pub max : reading.scan.max ≡ largest
   pub stands : Stands reads holds reading.scan reading.fed reading.fault reading.count reading.grammar text
 
 -- the lines of the text, which is not too long and ends in line `end`, made this state
-pub record IsWhole {G : Type 0} (reads : G → List Line → Type 0) (largest most : ℕ) (state : G) (end : ℕ) (text : List ℕ) : Type 0 where
+pub record IsWhole {G : Type 0} (reads : G → List Line → Type 0) (largest most : ℕ) (state : G) (end : ℕ)
+    (text : List ℕ) : Type 0 where
   pub short : length text ≤ most
   pub end_is : end ≡ line_after text
   pub read : reads state (lines largest text)
@@ -21,4 +24,5 @@ pub record IsWhole {G : Type 0} (reads : G → List Line → Type 0) (largest mo
 -- the text is refused for its length, or memory was wanting
 abbrev pub IsTooLong : {K : Type 0} → (most : ℕ) → K → List ℕ → ReadingFault K → Type 0
 IsTooLong most kind text NoMemory = Unit {0}
-IsTooLong most kind text (Refused refusal) = (most < length text) × (refusal ≡ record { kind = kind; line = 0 })
+IsTooLong most kind text (Refused refusal) =
+    (most < length text) × (refusal ≡ record { kind = kind; line = 0 })

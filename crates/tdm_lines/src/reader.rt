@@ -32,8 +32,8 @@ impl<G: Grammar + Drop> Reading<G> {
         Ok(())
     }
 
-    /// Ends the text. Answers what its lines made of the grammar's state, and the number of its last line; refuses a
-    /// text of more than so many bytes as this kind says. A reading that is spent answers NoMemory.
+    /// Ends the text. Answers what its lines made of the grammar's state, and the number of its last line;
+    /// refuses a text of more than so many bytes as this kind says. A reading that is spent answers NoMemory.
     pub fn finish<K: Copy>(self, most: u64, too_long: K) -> Result<(G, u32), ReadingFault<K>>
         requires fine { self.spent ≡ false → G.fine self.grammar }
         requires room { most + 1 < 2 ^ 31 }

@@ -13,8 +13,9 @@ use std::alloc::AllocError;
 
 /// A text that was read so far, and what it made of its grammar's state.
 ///
-/// Of the line in progress it keeps how many tokens it has and the first fault by the order of kinds. Its numbers are
-/// kept by the grammar, as far as it wants them. After a want of memory it is spent, and answers so from then on.
+/// Of the line in progress it keeps how many tokens it has and the first fault by the order of kinds. Its
+/// numbers are kept by the grammar, as far as it wants them. After a want of memory it is spent, and answers
+/// so from then on.
 #[derive(Drop)]
 pub struct Reading<G> {
     pub(crate) spent: bool,

@@ -12,8 +12,8 @@ use thiserror::Error;
 pub struct Refusal<K> {
     /// What is wrong.
     pub kind: K,
-    /// The line at fault, from 1. What is missing is said to stand where the text ends, on the line that is the number
-    /// of line feeds plus 1; 0 where the whole text is at fault.
+    /// The line at fault, from 1. What is missing is said to stand where the text ends, on the line that is
+    /// the number of line feeds plus 1; 0 where the whole text is at fault.
     pub line: u32,
 }
 

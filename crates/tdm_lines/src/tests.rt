@@ -1,8 +1,8 @@
 ghost use Rattle.std.specs.Prelude.{◌≤◌, ◌^◌, [], length};
 
 use crate::{
-    FirstNumbers, FoundLine, Grammar, LineCursor, Reading, ReadingFault, Refusal, RefusalKind, Scan,
-    ScanStep, TokenEnd, TokenFault, clean, decimal, line_after, refused, token_lines,
+    FirstNumbers, FoundLine, Grammar, LineCursor, Reading, ReadingFault, Refusal, RefusalKind,
+    Scan, ScanStep, TokenEnd, TokenFault, clean, decimal, line_after, refused, token_lines,
 };
 use std::alloc::{AllocError, Global};
 use std::process::Abort;

@@ -21,7 +21,8 @@ said : (text : List ℕ) (end : ℕ) (state : BoardState) → IsWhole Reads larg
 said text end state whole =
     let found : List Line = lines largest_number text in
     let too_long : Result Board BoardRefusal = Err (record { kind = TooLong; line = 0 }) in
-    ap (λ (b : Bool). cond b too_long (board_of_lines (line_after text) found)) (le-ltb most_bytes (length text) whole.short)
+    ap (λ (b : Bool). cond b too_long (board_of_lines (line_after text) found))
+    (le-ltb most_bytes (length text) whole.short)
     ∙ ap (λ (n : ℕ). board_of_lines n found) (sym whole.end_is)
     ∙ ap (board_of_lines end) (sym (append-nil found)) ∙ whole.read end []
 

@@ -17,18 +17,22 @@ use Rattle.solution_text.proofs.reader.SolutionReader.end.Goals as goal
 use Rattle.solution_text.proofs.reader.SolutionReader.end.Goals.{In_ok-state}
 
 -- a text that is not too long says what the state says that its lines made
-said : (board : Board) (text : List ℕ) (end : ℕ) (state : SolutionState) → state.wires ∷ state.nets ∷ [] ≡ length board.wires ∷ length board.nets ∷ []
+said : (board : Board) (text : List ℕ) (end : ℕ) (state : SolutionState)
+    → state.wires ∷ state.nets ∷ [] ≡ length board.wires ∷ length board.nets ∷ []
     → IsWhole Reads largest_number most_bytes state end text → solution_of board text ≡ said_of state end []
 said board text end state sizes whole =
-    whole_is board text state.wires end state.nets (lines largest_number text) whole.short (ap (λ (xs : List ℕ). get_or xs 0 0) sizes) whole.end_is (ap (λ (xs : List ℕ). get_or xs 1 0) sizes) refl
-    ∙ ap (nets_from state.wires end state.nets) (sym (append-nil (lines largest_number text))) ∙ whole.read end []
+    whole_is board text state.wires end state.nets (lines largest_number text) whole.short
+    (ap (λ (xs : List ℕ). get_or xs 0 0) sizes) whole.end_is (ap (λ (xs : List ℕ). get_or xs 1 0) sizes) refl
+    ∙ ap (nets_from state.wires end state.nets) (sym (append-nil (lines largest_number text)))
+    ∙ whole.read end []
 
 -- the text says what the state says where it ends
 whole : (c : In_ok-state) (board : Board) (text : List ℕ) → IsAt c.args.self board text
     → solution_of board text ≡ said_of c.in_ok-state.state c.in_ok-state.end []
 whole c board text there =
     let inside = subst (λ (r : Reading SolutionState). IsAt r board text) (sym c.self.view_is) there in
-    said board text c.in_ok-state.end c.in_ok-state.state (c.in_ok-state.ensures.sizes ∙ inside.sizes) (c.in_ok-state.ensures.read text inside.fed_is)
+    said board text c.in_ok-state.end c.in_ok-state.state (c.in_ok-state.ensures.sizes ∙ inside.sizes)
+    (c.in_ok-state.ensures.read text inside.fed_is)
 
 pub returns-in_err-state-clause-fault : goal.returns-in_err-state-clause-fault
 returns-in_err-state-clause-fault c =
@@ -39,9 +43,13 @@ returns-in_err-state-clause-fault c =
 
 pub returns-in_err-finish-clause-fault : goal.returns-in_err-finish-clause-fault
 returns-in_err-finish-clause-fault c =
-    let p = err_from_is_err_and c.from_residual-in_err-finish.result c.from_residual-in_err-finish.ensures.1 in
-    rw (p.1, p.2) (λ board text there. whole (goal.at.returns-in_err-finish-clause-fault c).In_ok-state board text there ∙ sym c.finish-2.ensures ∙ c.in_err-finish.was)
+    let p =
+        err_from_is_err_and c.from_residual-in_err-finish.result c.from_residual-in_err-finish.ensures.1 in
+    rw (p.1, p.2) (λ board text there.
+    whole (goal.at.returns-in_err-finish-clause-fault c).In_ok-state board text there
+    ∙ sym c.finish-2.ensures ∙ c.in_err-finish.was)
 
 pub returns-clause-for_problem : goal.returns-clause-for_problem
 returns-clause-for_problem c = λ board text there.
-    solution_is_for board text _ (whole (goal.at.returns-clause-for_problem c).In_ok-state board text there ∙ sym c.finish-2.ensures ∙ c.in_ok-finish.was)
+    solution_is_for board text _ (whole (goal.at.returns-clause-for_problem c).In_ok-state board text there
+    ∙ sym c.finish-2.ensures ∙ c.in_ok-finish.was)
