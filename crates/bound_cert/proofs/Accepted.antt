@@ -5,7 +5,6 @@ use Rattle.std.proofs.lemmas.Bool.{ltb-false, eqb-true, eqb-false}
 use Rattle.std.proofs.lemmas.List.{length-replicate}
 use Rattle.std.proofs.lemmas.List.Elements.{All-nil, All-cons, All-weaker, All-replicate}
 use Rattle.tdm_lines.specs.declared.line.TokenFault.{TokenFault}
-use Rattle.tdm_lines.specs.declared.line.TokenFault.TheVariants as token
 use Rattle.tdm_lines.specs.Tokens.{tokens}
 use Rattle.tdm_lines.specs.Lines.{Line, lines, lines_from, put_line, line_after, pieces}
 use Rattle.tdm_lines.proofs.LineSteps.{numbers_of-within}
@@ -16,9 +15,10 @@ use Rattle.bound_cert.specs.declared.header.Header.{Header}
 use Rattle.bound_cert.specs.Limits.{most_weight, most_length, most_unit, most_potentials, most_potential_value}
 use Rattle.bound_cert.specs.declared.refusal.CertTextKind.{CertTextKind}
 use Rattle.bound_cert.specs.declared.refusal.CertTextKind.TheVariants.{NoHeader, BadUnit, BadKind, MissingLine, WeightLimit, LengthLimit, UnknownPotential}
-use Rattle.bound_cert.specs.declared.refusal.CertRefusal.{CertRefusal}
+use Rattle.bound_cert.specs.CertKinds.{CertRefusal, of_token}
 use Rattle.bound_cert.specs.Certificate.{Cert, IsCert, IsCertFor, IsPotential, HasUnit, HasLengths}
-use Rattle.bound_cert.specs.CertReading.{◌>>=◌, refused, unless_bad, grows_said, kind_said, count_said, header_said, number_said, potential_said, next_line, line_from, section_from, lengths_from, choices_from, unless_more, cert_from, cert_of}
+use Rattle.tdm_lines.specs.Refusals.{◌>>=◌, refused, unless_bad}
+use Rattle.bound_cert.specs.CertReading.{grows_said, kind_said, count_said, header_said, number_said, potential_said, next_line, line_from, section_from, lengths_from, choices_from, unless_more, cert_from, cert_of}
 
 -- ---- where there is no refusal, each step says something
 
@@ -161,10 +161,9 @@ AreWithin-lines_from largest n (piece ∷ more) =
     (AreWithin-lines_from largest (n + 1) more)
 
 unless_bad-ok : (fault : Option TokenFault) (line : Line) (more : List Line) (out : Line × List Line)
-    → unless_bad fault line more ≡ Ok out → (line, more) ≡ out
+    → unless_bad of_token fault line more ≡ Ok out → (line, more) ≡ out
 unless_bad-ok None line more out ok = ok-equal (line, more) out ok
-unless_bad-ok (Some token.BadNumber) line more out ok = absurd (cc)
-unless_bad-ok (Some token.NumberTooLarge) line more out ok = absurd (cc)
+unless_bad-ok (Some bad) line more out ok = absurd (cc)
 
 unless_more-ok : (cert : Cert) (lines : List Line) (out : Cert) → unless_more cert lines ≡ Ok out → cert ≡ out
 unless_more-ok cert [] out ok = ok-equal cert out ok

@@ -13,7 +13,7 @@ use Rattle.bound_cert.specs.declared.certificate.CertKind.TheVariants.{Share, Ho
 use Rattle.bound_cert.specs.Limits.{most_weight, most_length, most_unit, most_potentials, most_potential_value}
 use Rattle.bound_cert.specs.declared.refusal.CertTextKind.{CertTextKind}
 use Rattle.bound_cert.specs.declared.refusal.CertTextKind.TheVariants.{NoHeader, WeightLimit, LengthLimit, UnknownPotential, MissingLine}
-use Rattle.bound_cert.specs.declared.refusal.CertRefusal.{CertRefusal}
+use Rattle.bound_cert.specs.CertKinds.{CertRefusal}
 use Rattle.bound_cert.specs.Certificate.{Cert, IsCert, IsCertFor, IsPotential, HasLengths}
 use Rattle.bound_cert.specs.CertText.{version_of, number_of_kind, unit_of_kind, listed_lengths, listed_choices, header_row, number_line, cert_text}
 use Rattle.bound_cert.specs.CertReading.{grows_said, kind_said, count_said, header_said, number_said, potential_said, line_from, section_from, lengths_from, choices_from, cert_from, cert_of}

@@ -4,7 +4,6 @@ use Rattle.std.proofs.lemmas.Bool.{le-ltb, ne_eqb, cases_lt}
 use Rattle.std.proofs.lemmas.List.{append-nil, take_all}
 use Rattle.std.proofs.lemmas.List.Elements.{All-push}
 use Rattle.tdm_lines.specs.declared.line.TokenFault.{TokenFault}
-use Rattle.tdm_lines.specs.declared.line.TokenFault.TheVariants as token
 use Rattle.tdm_lines.specs.FirstNumbers.{Firsts}
 use Rattle.tdm_lines.specs.Lines.{Line, lines, line_after}
 use Rattle.tdm_lines.specs.SoFar.{ended_line}
@@ -12,24 +11,23 @@ use Rattle.tdm_problem.specs.Board.{Board}
 use Rattle.bound_cert.specs.declared.certificate.CertKind.{CertKind}
 use Rattle.bound_cert.specs.declared.certificate.CertKind.TheVariants.{Share}
 use Rattle.bound_cert.specs.declared.header.Header.{Header}
-use Rattle.bound_cert.specs.declared.refusal.CertFault.{CertFault}
-use Rattle.bound_cert.specs.declared.refusal.CertFault.TheVariants.{Refused, NoMemory}
-use Rattle.bound_cert.specs.declared.refusal.CertRefusal.{CertRefusal}
+use Rattle.tdm_lines.specs.declared.refusal.ReadingFault.TheVariants.{Refused, NoMemory}
+use Rattle.bound_cert.specs.CertKinds.{CertRefusal, CertFault, of_token}
 use Rattle.bound_cert.specs.declared.refusal.CertTextKind.{CertTextKind}
 use Rattle.bound_cert.specs.declared.refusal.CertTextKind.TheVariants.{MissingLine}
 use Rattle.bound_cert.specs.declared.state.Sizes.{Sizes}
 use Rattle.bound_cert.specs.Certificate.{Cert, HasLengths, IsPotential}
-use Rattle.bound_cert.specs.CertFaults.{IsFaultOf}
 use Rattle.bound_cert.specs.CertReader.{listed, sizes_of}
-use Rattle.bound_cert.specs.CertReading.{refused, header_said, number_said, potential_said, section_from, cert_of, ◌>>=◌}
+use Rattle.tdm_lines.specs.Refusals.{IsFaultOf, refused, clean, ◌>>=◌}
+use Rattle.bound_cert.specs.CertReading.{header_said, number_said, potential_said, section_from, cert_of}
 use Rattle.bound_cert.specs.Limits.{most_weight, most_length, most_potential_value}
-use Rattle.bound_cert.specs.Roles.{clean, line_said, in_section, from_header, past_header, IsKept}
+use Rattle.bound_cert.specs.Roles.{line_said, in_section, from_header, past_header, IsKept}
 
 -- ---- one line
 
 -- a line is refused for its tokens
 pub fault-first : {A : Type 0} (said : ℕ → List ℕ → Result A CertRefusal) (fault : CertFault) (n : ℕ)
-    (tokens : Option TokenFault) (numbers : List ℕ) → IsFaultOf fault (clean n tokens)
+    (tokens : Option TokenFault) (numbers : List ℕ) → IsFaultOf fault (clean of_token n tokens)
     → IsFaultOf fault (line_said said n tokens numbers)
 fault-first said NoMemory n tokens numbers is = tt
 fault-first said (Refused refusal) n tokens numbers is = rw is refl
@@ -129,8 +127,7 @@ module _ (after : ℕ) {A : Type 0} (said : ℕ → List ℕ → Result A CertRe
       → in_section after said next (suc left) front (ended_line n fault numbers ∷ more)
       ≡ (line_said said n fault numbers >>= λ x. in_section after said next left (front ++ x ∷ []) more)
   one-more left front n None numbers more = here left front more (said n numbers)
-  one-more left front n (Some token.BadNumber) numbers more = refl
-  one-more left front n (Some token.NumberTooLarge) numbers more = refl
+  one-more left front n (Some f) numbers more = refl
 
   pub section-line : (left : ℕ) (front : List A) (n : ℕ) (fault : Option TokenFault) (numbers : List ℕ)
       (more : List Line) → 0 < left
@@ -176,8 +173,7 @@ header-line : (after : ℕ) (sizes : Sizes) (n : ℕ) (fault : Option TokenFault
     more)
 header-line after sizes n None numbers more =
     through (past_header after sizes) more (header_said sizes.fpgas n numbers)
-header-line after sizes n (Some token.BadNumber) numbers more = refl
-header-line after sizes n (Some token.NumberTooLarge) numbers more = refl
+header-line after sizes n (Some f) numbers more = refl
 
 pub header-refused : (after : ℕ) (sizes : Sizes) (n : ℕ) (tokens : Option TokenFault) (numbers : List ℕ)
     (more : List Line) (fault : CertFault)

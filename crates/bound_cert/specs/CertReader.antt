@@ -1,8 +1,7 @@
 -- What a reader of a certificate text that is fed in pieces stands for.
-use Rattle.std.specs.Prelude.{◌≡◌, ℕ, Bool, List, [], ◌∷◌, length, false, Option}
-use Rattle.tdm_lines.specs.declared.line.TokenFault.{TokenFault}
-use Rattle.tdm_lines.specs.Pending.{Scanned}
-use Rattle.tdm_lines.specs.SoFar.{Stands}
+use Rattle.std.specs.Prelude.{◌≡◌, ℕ, List, [], ◌∷◌, length}
+use Rattle.tdm_lines.specs.Reader.{IsFed}
+use Rattle.tdm_lines.specs.declared.reading.Reading.{Reading}
 use Rattle.tdm_problem.specs.Board.{Board}
 use Rattle.bound_cert.specs.declared.state.CertState.{CertState}
 use Rattle.bound_cert.specs.declared.state.Sizes.{Sizes}
@@ -22,19 +21,8 @@ sizes_of board = record {
 abbrev pub listed : Sizes → List ℕ
 listed sizes = sizes.fpgas ∷ sizes.groups ∷ sizes.wires ∷ sizes.nets ∷ []
 
--- what a reader is seen as
-pub record Fed : Type 0 where
-  pub spent : Bool
-  pub scan : Scanned
-  pub fed : ℕ
-  pub fault : Option TokenFault
-  pub count : ℕ
-  pub state : CertState
-
--- the reader is not spent, is for this board, and was fed this text: whatever comes, the text says what the
+-- the reader is for this board, is not spent, and was fed this text: whatever comes, the text says what the
 -- reader's state says of that
-pub record IsAt (reader : Fed) (board : Board) (text : List ℕ) : Type 0 where
-  pub kept : reader.spent ≡ false
-  pub max : reader.scan.max ≡ most_potential_value
-  pub sizes : listed reader.state.sizes ≡ listed (sizes_of board)
-  pub stands : Stands Reads Holds reader.scan reader.fed reader.fault reader.count reader.state text
+pub record IsAt (reader : Reading CertState) (board : Board) (text : List ℕ) : Type 0 where
+  pub sizes : listed reader.grammar.sizes ≡ listed (sizes_of board)
+  pub fed_is : IsFed Reads Holds most_potential_value reader text

@@ -1,39 +1,22 @@
 -- What a text says: a certificate for the board, or the first refusal.
-use Rattle.std.specs.Prelude.{ℕ, zero, suc, ◌^◌, ◌==◌, ◌&&◌, ◌||◌, nat_lt, if◌then◌else◌, Bool, true, false, List, [], ◌∷◌, length, replicate, Option, None, Some, Result, Ok, Err}
+use Rattle.std.specs.Prelude.{ℕ, zero, suc, ◌^◌, ◌==◌, ◌&&◌, ◌||◌, nat_lt, if◌then◌else◌, Bool, true, false, List, [], ◌∷◌, length, replicate, Result, Ok}
 use Rattle.tdm_problem.specs.Board.{Board}
-use Rattle.tdm_lines.specs.declared.line.TokenFault.{TokenFault}
-use Rattle.tdm_lines.specs.declared.line.TokenFault.TheVariants as token
 use Rattle.tdm_lines.specs.Lines.{Line, lines, line_after}
+use Rattle.tdm_lines.specs.Refusals.{refused, ◌>>=◌, next_line as next_of}
 use Rattle.bound_cert.specs.declared.certificate.CertKind.{CertKind}
 use Rattle.bound_cert.specs.declared.certificate.CertKind.TheVariants.{Share, Hop}
 use Rattle.bound_cert.specs.declared.header.Header.{Header}
 use Rattle.bound_cert.specs.Limits.{most_weight, most_length, most_unit, most_potentials, most_potential_value}
 use Rattle.bound_cert.specs.declared.refusal.CertTextKind.{CertTextKind}
-use Rattle.bound_cert.specs.declared.refusal.CertTextKind.TheVariants.{NoHeader, BadNumber, NumberTooLarge, WrongCount, BadVersion, BadKind, BadUnit, CountLimit, WeightLimit, LengthLimit, UnknownPotential, MissingLine, ExtraLine, TooLong}
-use Rattle.bound_cert.specs.declared.refusal.CertRefusal.{CertRefusal}
+use Rattle.bound_cert.specs.declared.refusal.CertTextKind.TheVariants.{NoHeader, WrongCount, BadVersion, BadKind, BadUnit, CountLimit, WeightLimit, LengthLimit, UnknownPotential, MissingLine, ExtraLine, TooLong}
+use Rattle.bound_cert.specs.CertKinds.{CertRefusal, of_token}
 use Rattle.bound_cert.specs.Certificate.{Cert}
 
 -- the most bytes of a certificate text
 abbrev pub most_bytes : ℕ
 most_bytes = 2 ^ 30
 
--- a refusal of this kind, which names this line
-abbrev pub refused : {A : Type 0} → CertTextKind → ℕ → Result A CertRefusal
-refused kind line = Err (record { kind = kind; line = line })
-
-infixl 10 ◌>>=◌
--- the first refusal stands
-abbrev pub ◌>>=◌ : {A B : Type 0} → Result A CertRefusal → (A → Result B CertRefusal) → Result B CertRefusal
-(Ok said) >>= next = next said
-(Err refusal) >>= next = Err refusal
-
 -- ---- what a line says
-
--- the line and those behind it, unless its tokens have a fault
-abbrev pub unless_bad : Option TokenFault → Line → List Line → Result (Line × List Line) CertRefusal
-unless_bad None line more = Ok (line, more)
-unless_bad (Some token.BadNumber) line more = refused BadNumber line.number
-unless_bad (Some token.NumberTooLarge) line more = refused NumberTooLarge line.number
 
 -- the kind of this number, with a unit that it may have
 abbrev pub kind_said : ℕ → (kind unit : ℕ) → Result CertKind CertRefusal
@@ -80,10 +63,9 @@ unless_more cert [] = Ok cert
 unless_more cert (line ∷ more) = refused ExtraLine line.number
 
 module _ (after : ℕ) where
-  -- the next line and those behind it; where none is left, the line after the text is named
+  -- the next line and those behind it
   abbrev pub next_line : CertTextKind → List Line → Result (Line × List Line) CertRefusal
-  next_line missing [] = refused missing after
-  next_line missing (line ∷ more) = unless_bad line.fault line more
+  next_line missing lines = next_of of_token after missing lines
 
   -- what the next line says, and the lines behind it
   abbrev pub line_from : {A : Type 0} → CertTextKind → (ℕ → List ℕ → Result A CertRefusal)

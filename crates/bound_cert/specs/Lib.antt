@@ -8,7 +8,6 @@ pub mod Samples
 pub mod CertText
 pub mod CertKinds
 pub mod CertReading
-pub mod CertFaults
 pub mod Roles
 pub mod CertReader
 pub mod Sources

@@ -1,35 +1,27 @@
 -- Where a certificate text stands: what its lines so far have said, and what the lines that still come make
 -- of that.
-use Rattle.std.specs.Prelude.{◌≡◌, ℕ, true, false, ◌+◌, ◌<◌, ◌≤◌, List, [], ◌∷◌, ◌++◌, length, take, All, Option, Some, None, Result, Ok, Err}
+use Rattle.std.specs.Prelude.{◌≡◌, ℕ, true, false, ◌+◌, ◌<◌, ◌≤◌, List, [], ◌∷◌, ◌++◌, length, take, All, Option, None, Result, Err}
 use Rattle.tdm_lines.specs.declared.line.TokenFault.{TokenFault}
-use Rattle.tdm_lines.specs.declared.line.TokenFault.TheVariants as token
 use Rattle.tdm_lines.specs.FirstNumbers.{Firsts, AreFirst}
 use Rattle.tdm_lines.specs.Lines.{Line}
 use Rattle.tdm_lines.specs.SoFar.{ended_line}
 use Rattle.bound_cert.specs.declared.certificate.CertKind.TheVariants.{Share}
 use Rattle.bound_cert.specs.declared.header.Header.{Header}
-use Rattle.bound_cert.specs.declared.refusal.CertRefusal.{CertRefusal}
-use Rattle.bound_cert.specs.declared.refusal.CertTextKind.TheVariants.{NoHeader, BadNumber, NumberTooLarge, WeightLimit, LengthLimit, UnknownPotential}
+use Rattle.bound_cert.specs.CertKinds.{CertRefusal, of_token}
+use Rattle.bound_cert.specs.declared.refusal.CertTextKind.TheVariants.{NoHeader, WeightLimit, LengthLimit, UnknownPotential}
 use Rattle.bound_cert.specs.declared.state.CertState.{CertState}
 use Rattle.bound_cert.specs.declared.state.Role.{Role}
 use Rattle.bound_cert.specs.declared.state.Role.TheVariants as role
 use Rattle.bound_cert.specs.declared.state.Sizes.{Sizes}
 use Rattle.bound_cert.specs.Certificate.{Cert, HasLengths, IsPotential}
-use Rattle.bound_cert.specs.CertReading.{refused, header_said, number_said, potential_said, line_from, section_from, lengths_from, choices_from, unless_more, ◌>>=◌}
+use Rattle.tdm_lines.specs.Refusals.{line_said as said_of_line, ◌>>=◌}
+use Rattle.bound_cert.specs.CertReading.{header_said, number_said, potential_said, line_from, section_from, lengths_from, choices_from, unless_more}
 use Rattle.bound_cert.specs.Limits.{most_weight, most_length, most_potentials, most_potential_value}
-
--- ---- one line
-
--- line n is refused where its tokens have a fault
-abbrev pub clean : ℕ → Option TokenFault → Result (Unit {0}) CertRefusal
-clean n None = Ok tt
-clean n (Some token.BadNumber) = refused BadNumber n
-clean n (Some token.NumberTooLarge) = refused NumberTooLarge n
 
 -- what line n says, by what its numbers say
 abbrev pub line_said : {A : Type 0} → (ℕ → List ℕ → Result A CertRefusal) → ℕ → Option TokenFault → List ℕ
     → Result A CertRefusal
-line_said said n fault numbers = clean n fault >>= λ _. said n numbers
+line_said said n fault numbers = said_of_line of_token said n fault numbers
 
 -- ---- the lines that still come
 

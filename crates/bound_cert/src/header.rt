@@ -1,13 +1,14 @@
 //! The header of a certificate text.
 ghost use Rattle.std.specs.Prelude.{◌≡◌, ◌≤◌, ◌<◌, true, Ok, IfOk};
 ghost use Rattle.bound_cert.specs.CertReading.{grows_said, kind_said, count_said, header_said};
-ghost use Rattle.bound_cert.specs.CertFaults.{Leads};
+ghost use Rattle.tdm_lines.specs.Refusals.{Leads};
 ghost use Rattle.bound_cert.specs.Certificate.{HasUnit};
 ghost use Rattle.bound_cert.specs.Limits.{most_potentials};
 
 use crate::certificate::CertKind;
 use crate::limits::{MAX_POTENTIALS, MAX_UNIT};
-use crate::refusal::{CertFault, CertTextKind, refused};
+use crate::refusal::{CertFault, CertTextKind};
+use tdm_lines::refused;
 
 /// What a header says: the kind, whether the spread of a net is its growth, and how many potentials there
 /// are.

@@ -2,12 +2,13 @@
 ghost use Rattle.std.specs.Prelude.{◌≡◌, Ok, IfOk, IfErr};
 ghost use Rattle.bound_cert.specs.Certificate.{IsCertFor};
 ghost use Rattle.bound_cert.specs.CertReading.{cert_of};
-ghost use Rattle.bound_cert.specs.CertFaults.{IsFaultOf};
+ghost use Rattle.tdm_lines.specs.Refusals.{IsFaultOf};
 
 use crate::certificate::Certificate;
 use crate::reader::CertReader;
-use crate::refusal::{CertFault, CertTextKind, refused};
+use crate::refusal::{CertFault, CertTextKind};
 use std::alloc::Global;
+use tdm_lines::refused;
 use tdm_problem::Problem;
 
 /// The most bytes of a certificate text, which are 2^30.

@@ -3,14 +3,14 @@ ghost use Rattle.std.specs.Prelude.{◌≡◌, ◌+◌, ◌≤◌, ◌^◌, ◌+
 ghost use Rattle.tdm_problem.specs.Board.{Board};
 ghost use Rattle.bound_cert.specs.Certificate.{IsCertFor};
 ghost use Rattle.bound_cert.specs.CertReading.{cert_of};
-ghost use Rattle.bound_cert.specs.CertFaults.{IsFaultOf};
+ghost use Rattle.tdm_lines.specs.Refusals.{IsFaultOf};
 ghost use Rattle.bound_cert.specs.CertReader.{IsAt};
-ghost use Rattle.bound_cert.specs.declared.refusal.CertFault.TheVariants.{NoMemory};
+ghost use Rattle.tdm_lines.specs.declared.refusal.ReadingFault.TheVariants.{NoMemory};
 
 use crate::certificate::Certificate;
 use crate::limits::MAX_POTENTIAL_VALUE;
 use crate::read::MAX_CERT_BYTES;
-use crate::refusal::{CertFault, CertTextKind, refused};
+use crate::refusal::{CertFault, CertTextKind};
 use crate::state::{CertState, Sizes};
 use std::alloc::{AllocError, Global};
 use std::marker::Model;
@@ -21,26 +21,19 @@ use tdm_problem::Problem;
 #[derive(Drop)]
 pub struct CertReader {
     reading: Reading<CertState>,
-    spent: bool,
 }
 
 impl Model for CertReader {
     ghost use Rattle.std.specs.Prelude.{◌≡◌, false};
-    ghost use Rattle.bound_cert.specs.CertReader.{Fed};
+    ghost use Rattle.tdm_lines.specs.declared.reading.Reading.{Reading};
+    ghost use Rattle.bound_cert.specs.declared.state.CertState.{CertState};
     ghost use Rattle.bound_cert.specs.Roles.{IsFine};
 
-    ghost Value = { Fed };
+    ghost Value = { Reading CertState };
 
-    ghost view = { λ r. record {
-      spent = r.spent;
-      scan = r.reading.scan;
-      fed = r.reading.fed;
-      fault = r.reading.fault;
-      count = r.reading.count;
-      state = r.reading.grammar;
-    } };
+    ghost view = { λ r. r.reading };
 
-    ghost invariant = { λ r. r.spent ≡ false → IsFine r.reading.grammar };
+    ghost invariant = { λ r. r.reading.spent ≡ false → IsFine r.reading.grammar };
 }
 
 impl CertReader {
@@ -57,7 +50,6 @@ impl CertReader {
         };
         CertReader {
             reading: Reading::new(CertState::new(alloc, sizes), MAX_POTENTIAL_VALUE),
-            spent: false,
         }
     }
 
@@ -78,12 +70,7 @@ impl CertReader {
         ensures spent { OnErr result (IsTrue self.new.spent) }
         ensures stays { self.old.spent ≡ true → result ≡ Err alloc_error }
     {
-        if self.spent {
-            return Err(AllocError);
-        }
-        self.spent = true;
         self.reading.feed(piece)?;
-        self.spent = false;
         Ok(())
     }
 
@@ -97,16 +84,8 @@ impl CertReader {
         ensures fault { IfErr result (λ fault. (board : Board) (text : List ℕ) → IsAt self board text
             → IsFaultOf fault (cert_of board text)) }
     {
-        if self.spent {
-            return Err(CertFault::NoMemory);
-        }
-        if self.reading.fed() > MAX_CERT_BYTES as u64 {
-            return Err(refused(CertTextKind::TooLong, 0));
-        }
-        let (state, end) = self.reading.finish()?;
-        match state.finish(end) {
-            Ok(cert) => Ok(cert),
-            Err(refusal) => Err(CertFault::Refused(refusal)),
-        }
+        let most = MAX_CERT_BYTES as u64;
+        let (state, end) = self.reading.finish(most, CertTextKind::TooLong)?;
+        Ok(state.finish(end)?)
     }
 }

@@ -1,10 +1,8 @@
 //! Why a text is no certificate.
 ghost use Rattle.std.specs.Prelude.{◌≡◌};
 ghost use Rattle.bound_cert.specs.CertKinds.{name_of};
-ghost use Rattle.bound_cert.specs.declared.refusal.CertFault.TheVariants.{NoMemory};
 
-use std::alloc::AllocError;
-use thiserror::Error;
+use tdm_lines::{ReadingFault, Refusal, RefusalKind, TokenFault};
 
 /// What is wrong with a text that is no certificate.
 ///
@@ -67,38 +65,21 @@ impl CertTextKind {
     }
 }
 
-/// What is wrong with a text, and on which line.
-#[derive(Clone, Copy, Debug, PartialEq, Eq)]
-pub struct CertRefusal {
-    /// What is wrong.
-    pub kind: CertTextKind,
-    /// The line at fault, from 1. A missing line or header is said to stand where the text ends, on the line
-    /// that is the number of line feeds plus 1; 0 for TooLong.
-    pub line: u32,
-}
+impl RefusalKind for CertTextKind {
+    ghost use Rattle.bound_cert.specs.CertKinds.{of_token};
 
-/// Why reading a certificate gave none.
-#[derive(Clone, Copy, Debug, PartialEq, Eq, Error)]
-pub enum CertFault {
-    /// The text is no certificate for the board.
-    #[error("the certificate text is refused")]
-    Refused(CertRefusal),
-    /// Memory was wanting.
-    #[error("memory was wanting")]
-    NoMemory,
-}
+    ghost of_token = { of_token };
 
-impl From<AllocError> for CertFault {
-    ghost from_gives = { λ _ fault. fault ≡ NoMemory };
-
-    fn from(_error: AllocError) -> CertFault {
-        CertFault::NoMemory
+    fn of_token(fault: TokenFault) -> CertTextKind {
+        match fault {
+            TokenFault::BadNumber => CertTextKind::BadNumber,
+            TokenFault::NumberTooLarge => CertTextKind::NumberTooLarge,
+        }
     }
 }
 
-/// A refusal of this kind, which names this line.
-pub(crate) fn refused(kind: CertTextKind, line: u32) -> CertFault
-    ensures { result ≡ CertFault.Refused (record { kind = kind; line = line }) }
-{
-    CertFault::Refused(CertRefusal { kind, line })
-}
+/// The first fault of a certificate text. The line is 0 for TooLong.
+pub type CertRefusal = Refusal<CertTextKind>;
+
+/// Why reading a certificate gave none.
+pub type CertFault = ReadingFault<CertTextKind>;

@@ -1,26 +1,13 @@
 //! What the numbers of a line say.
-ghost use Rattle.std.specs.Prelude.{◌≡◌, ◌≤◌, length, All, None, Ok, IfOk, OnOk};
+ghost use Rattle.std.specs.Prelude.{◌≡◌, ◌≤◌, length, All, Ok, IfOk};
 ghost use Rattle.bound_cert.specs.CertReading.{number_said, potential_said};
-ghost use Rattle.bound_cert.specs.CertFaults.{Leads};
+ghost use Rattle.tdm_lines.specs.Refusals.{Leads};
 ghost use Rattle.bound_cert.specs.Limits.{most_potential_value};
-ghost use Rattle.bound_cert.specs.Roles.{clean};
 
 use crate::potential::Potential;
-use crate::refusal::{CertFault, CertTextKind, refused};
+use crate::refusal::{CertFault, CertTextKind};
 use std::alloc::Global;
-use tdm_lines::TokenFault;
-
-/// Refuses a line whose tokens have a fault.
-pub(crate) fn clean(fault: Option<TokenFault>, line: u32) -> Result<(), CertFault>
-    ensures none { OnOk result (fault ≡ None) }
-    ensures said { Leads result (clean line fault) Ok }
-{
-    match fault {
-        None => Ok(()),
-        Some(TokenFault::BadNumber) => Err(refused(CertTextKind::BadNumber, line)),
-        Some(TokenFault::NumberTooLarge) => Err(refused(CertTextKind::NumberTooLarge, line)),
-    }
-}
+use tdm_lines::refused;
 
 /// The number of a line that has one, at most the limit.
 pub(crate) fn number_said(

@@ -2,12 +2,12 @@
 ghost use Rattle.std.specs.Prelude.{◌≡◌, true, ◌<◌, ◌≤◌, ℕ, List, [], length, All, OnOk, IfOk, Ok, Result};
 ghost use Rattle.tdm_lines.specs.Lines.{Line};
 ghost use Rattle.bound_cert.specs.Certificate.{Cert, IsPotential, HasUnit};
-ghost use Rattle.bound_cert.specs.CertFaults.{Leads, IsFaultOf};
+ghost use Rattle.tdm_lines.specs.Refusals.{Leads, IsFaultOf};
 ghost use Rattle.bound_cert.specs.CertReading.{header_said, number_said, potential_said};
 ghost use Rattle.bound_cert.specs.CertReader.{listed};
 ghost use Rattle.bound_cert.specs.Limits.{most_potentials, most_potential_value};
 ghost use Rattle.bound_cert.specs.Roles.{AreTaken, Holds, IsFine, IsKept, Reads, Takes, in_potentials, line_said, past_header, past_potentials, past_weights, said_of, so_far};
-ghost use Rattle.bound_cert.specs.declared.refusal.CertRefusal.{CertRefusal as Refusal};
+ghost use Rattle.bound_cert.specs.CertKinds.{CertRefusal as Refusal};
 ghost use Rattle.bound_cert.specs.declared.state.Role.TheVariants as role;
 
 use crate::certificate::{CertKind, Certificate};
@@ -15,9 +15,9 @@ use crate::header::{Header, header_said};
 use crate::limits::{MAX_LENGTH, MAX_POTENTIAL_VALUE, MAX_WEIGHT};
 use crate::potential::Potential;
 use crate::refusal::{CertFault, CertRefusal, CertTextKind};
-use crate::said::{clean, number_said, potential_said};
+use crate::said::{number_said, potential_said};
 use std::alloc::{AllocError, Global};
-use tdm_lines::{FirstNumbers, Grammar, TokenFault};
+use tdm_lines::{FirstNumbers, Grammar, TokenFault, clean};
 
 /// What the next line is for.
 #[derive(Clone, Copy)]

@@ -7,12 +7,11 @@ use Rattle.std.proofs.lemmas.List.{length-map, length-take-le}
 use Rattle.std.proofs.lemmas.List.Elements.{All-nil, All-cons}
 use Rattle.std.proofs.lemmas.List.Sums.{sum_by-cons}
 use Rattle.tdm_lines.specs.declared.line.TokenFault.{TokenFault}
-use Rattle.tdm_lines.specs.declared.line.TokenFault.TheVariants as token
 use Rattle.tdm_lines.specs.Lines.{Line, lines, line_after, pieces}
 use Rattle.tdm_problem.specs.Board.{Board, IsBoard, IsWireOf, IsRowBelow}
 use Rattle.tdm_problem.specs.Limits.{most_fpgas, most_wires, most_nets, most_groups, most_listed_fpgas, most_listed_nets}
 use Rattle.tdm_problem.proofs.Repeats.{IsRowBelow-without_repeats, length-without_repeats}
-use Rattle.contest_input.specs.declared.fault.BoardRefusal.{BoardRefusal}
+use Rattle.contest_input.specs.Kinds.{BoardRefusal}
 use Rattle.contest_input.specs.declared.header.Sizes.{Sizes}
 use Rattle.contest_input.specs.declared.kind.BoardKind.{BoardKind}
 use Rattle.contest_input.specs.Faults.{tokens_first, sizes_of, wire_of, wire_fault, net_fault, group_fault}
@@ -35,8 +34,7 @@ or-none false b none = (refl, none)
 tokens-none : (fault : Option TokenFault) (kind : Option BoardKind) → tokens_first fault kind ≡ None
     → (fault ≡ None) × (kind ≡ None)
 tokens-none None kind none = (refl, none)
-tokens-none (Some token.BadNumber) kind none = absurd (cc)
-tokens-none (Some token.NumberTooLarge) kind none = absurd (cc)
+tokens-none (Some fault) kind none = absurd (cc)
 
 at-none : (n : ℕ) (kind : Option BoardKind) → refused_at n kind ≡ None → kind ≡ None
 at-none n None none = refl

@@ -9,7 +9,7 @@ use Rattle.tdm_lines.specs.declared.line.TokenFault.{TokenFault}
 use Rattle.tdm_lines.specs.SoFar.{ended_line}
 use Rattle.tdm_lines.specs.Written.{plain_line}
 use Rattle.tdm_problem.specs.Limits.{most_listed_fpgas, most_listed_nets}
-use Rattle.contest_input.specs.declared.fault.BoardRefusal.{BoardRefusal}
+use Rattle.contest_input.specs.Kinds.{BoardRefusal}
 use Rattle.contest_input.specs.declared.header.Sizes.{Sizes}
 use Rattle.contest_input.specs.declared.kind.BoardKind.{BoardKind}
 use Rattle.contest_input.specs.declared.kind.BoardKind.TheVariants.{WrongCount, UnknownFpga, UnknownNet, TotalLimit}

@@ -13,7 +13,7 @@ use Rattle.tdm_lines.proofs.WrittenLemmas.{lines_from-line_text}
 use Rattle.tdm_problem.specs.declared.wire.Wire.{Wire}
 use Rattle.tdm_problem.specs.Board.{Board, IsBoard, IsWireOf, IsRowBelow, without_repeats}
 use Rattle.tdm_problem.specs.Limits.{most_fpgas, most_wires, most_nets, most_groups, most_listed_fpgas, most_listed_nets}
-use Rattle.contest_input.specs.declared.fault.BoardRefusal.{BoardRefusal}
+use Rattle.contest_input.specs.Kinds.{BoardRefusal}
 use Rattle.contest_input.specs.declared.kind.BoardKind.{BoardKind}
 use Rattle.contest_input.specs.Faults.{sizes_of, wire_of, wire_fault, net_fault, group_fault}
 use Rattle.contest_input.specs.BoardText.{largest_number, unless, board_of_lines, board_of}

@@ -5,9 +5,8 @@ use Rattle.tdm_lines.specs.Lines.{Line}
 use Rattle.tdm_lines.specs.SoFar.{ended_line}
 use Rattle.tdm_lines.specs.Written.{plain_line}
 use Rattle.tdm_lines.specs.declared.line.TokenFault.{TokenFault}
-use Rattle.tdm_lines.specs.declared.line.TokenFault.TheVariants as token
 use Rattle.tdm_problem.specs.Board.{Board, without_repeats}
-use Rattle.contest_input.specs.declared.fault.BoardRefusal.{BoardRefusal}
+use Rattle.contest_input.specs.Kinds.{BoardRefusal}
 use Rattle.contest_input.specs.declared.header.Sizes.{Sizes}
 use Rattle.contest_input.specs.declared.kind.BoardKind.{BoardKind}
 use Rattle.contest_input.specs.declared.kind.BoardKind.TheVariants.{ExtraLine}
@@ -64,17 +63,13 @@ pub clean-plain : (r : Role) (sizes : Sizes) (listed n m : ℕ) (fault : Option 
     → line_kind r sizes listed (ended_line n fault numbers) ≡ None
     → line_kind r sizes listed (plain_line m numbers) ≡ None
 clean-plain role.Header sizes listed n m None numbers is = is
-clean-plain role.Header sizes listed n m (Some token.BadNumber) numbers is = absurd (cc)
-clean-plain role.Header sizes listed n m (Some token.NumberTooLarge) numbers is = absurd (cc)
+clean-plain role.Header sizes listed n m (Some f) numbers is = absurd (cc)
 clean-plain role.Wire sizes listed n m None numbers is = is
-clean-plain role.Wire sizes listed n m (Some token.BadNumber) numbers is = absurd (cc)
-clean-plain role.Wire sizes listed n m (Some token.NumberTooLarge) numbers is = absurd (cc)
+clean-plain role.Wire sizes listed n m (Some f) numbers is = absurd (cc)
 clean-plain role.Net sizes listed n m None numbers is = is
-clean-plain role.Net sizes listed n m (Some token.BadNumber) numbers is = absurd (cc)
-clean-plain role.Net sizes listed n m (Some token.NumberTooLarge) numbers is = absurd (cc)
+clean-plain role.Net sizes listed n m (Some f) numbers is = absurd (cc)
 clean-plain role.Group sizes listed n m None numbers is = is
-clean-plain role.Group sizes listed n m (Some token.BadNumber) numbers is = absurd (cc)
-clean-plain role.Group sizes listed n m (Some token.NumberTooLarge) numbers is = absurd (cc)
+clean-plain role.Group sizes listed n m (Some f) numbers is = absurd (cc)
 clean-plain role.End sizes listed n m fault numbers is = absurd (cc)
 clean-plain (role.Refused why) sizes listed n m fault numbers is = refl
 
@@ -82,14 +77,10 @@ clean-plain (role.Refused why) sizes listed n m fault numbers is = refl
 pub refused-there : (r : Role) (sizes : Sizes) (listed n : ℕ) (f : TokenFault) (numbers : List ℕ)
     → line_kind r sizes listed (ended_line n (Some f) numbers) ≡ None → (why : BoardRefusal)
     × (r ≡ role.Refused why)
-refused-there role.Header sizes listed n token.BadNumber numbers is = absurd (cc)
-refused-there role.Header sizes listed n token.NumberTooLarge numbers is = absurd (cc)
-refused-there role.Wire sizes listed n token.BadNumber numbers is = absurd (cc)
-refused-there role.Wire sizes listed n token.NumberTooLarge numbers is = absurd (cc)
-refused-there role.Net sizes listed n token.BadNumber numbers is = absurd (cc)
-refused-there role.Net sizes listed n token.NumberTooLarge numbers is = absurd (cc)
-refused-there role.Group sizes listed n token.BadNumber numbers is = absurd (cc)
-refused-there role.Group sizes listed n token.NumberTooLarge numbers is = absurd (cc)
+refused-there role.Header sizes listed n f numbers is = absurd (cc)
+refused-there role.Wire sizes listed n f numbers is = absurd (cc)
+refused-there role.Net sizes listed n f numbers is = absurd (cc)
+refused-there role.Group sizes listed n f numbers is = absurd (cc)
 refused-there role.End sizes listed n f numbers is = absurd (cc)
 refused-there (role.Refused why) sizes listed n f numbers is = (why, refl)
 

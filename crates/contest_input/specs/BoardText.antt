@@ -1,14 +1,12 @@
 -- What a board text says: a board, or the first thing that is wrong with it.
-use Rattle.std.specs.Prelude.{◌≡◌, ℕ, ◌+◌, ◌-◌, ◌^◌, nat_lt, if◌then◌else◌, List, [], ◌∷◌, ◌++◌, map, length, take, drop, Option, None, Some, Result, Ok, Err}
+use Rattle.std.specs.Prelude.{ℕ, ◌+◌, ◌-◌, ◌^◌, nat_lt, if◌then◌else◌, List, [], ◌∷◌, ◌++◌, map, length, take, drop, Option, None, Some, Result, Ok, Err}
 use Rattle.tdm_lines.specs.Lines.{Line, lines, line_after}
 use Rattle.tdm_problem.specs.Board.{Board, without_repeats}
 use Rattle.tdm_problem.specs.declared.wire.Wire.{Wire}
-use Rattle.contest_input.specs.declared.fault.BoardFault.{BoardFault}
-use Rattle.contest_input.specs.declared.fault.BoardFault.TheVariants.{Refused, NoMemory}
-use Rattle.contest_input.specs.declared.fault.BoardRefusal.{BoardRefusal}
 use Rattle.contest_input.specs.declared.header.Sizes.{Sizes}
 use Rattle.contest_input.specs.declared.kind.BoardKind.{BoardKind}
 use Rattle.contest_input.specs.declared.kind.BoardKind.TheVariants.{NoHeader, MissingLine, ExtraLine, TooLong}
+use Rattle.contest_input.specs.Kinds.{BoardRefusal}
 use Rattle.contest_input.specs.Faults.{sizes_of, wire_of, tokens_first, header_fault, wire_fault, net_fault, group_fault}
 
 -- the largest number of a board text
@@ -107,8 +105,3 @@ board_of text =
     if nat_lt most_bytes (length text)
     then Err (record { kind = TooLong; line = 0 })
     else board_of_lines (line_after text) (lines largest_number text)
-
--- the fault is the refusal that is said, or the want of memory, which says nothing of the text
-abbrev pub IsRefusalOf : Result Board BoardRefusal → BoardFault → Type 0
-IsRefusalOf said (Refused refusal) = said ≡ Err refusal
-IsRefusalOf said NoMemory = Unit {0}

@@ -2,12 +2,12 @@
 use Rattle.std.specs.Prelude.{ℕ, ◌==◌, ◌||◌, not, nat_lt, nat_le, if◌then◌else◌, List, length, slice_index, Option, None, Some}
 use Rattle.std.specs.List.{list_any}
 use Rattle.tdm_lines.specs.declared.line.TokenFault.{TokenFault}
-use Rattle.tdm_lines.specs.declared.line.TokenFault.TheVariants as token
 use Rattle.tdm_problem.specs.declared.wire.Wire.{Wire}
 use Rattle.tdm_problem.specs.Limits.{most_fpgas, most_wires, most_nets, most_groups, most_listed_fpgas, most_listed_nets}
 use Rattle.contest_input.specs.declared.header.Sizes.{Sizes}
 use Rattle.contest_input.specs.declared.kind.BoardKind.{BoardKind}
-use Rattle.contest_input.specs.declared.kind.BoardKind.TheVariants.{BadNumber, NumberTooLarge, WrongCount, CountLimit, UnknownFpga, SelfLoop, UnknownNet, TotalLimit}
+use Rattle.contest_input.specs.Kinds.{of_token}
+use Rattle.contest_input.specs.declared.kind.BoardKind.TheVariants.{WrongCount, CountLimit, UnknownFpga, SelfLoop, UnknownNet, TotalLimit}
 
 -- what the numbers of the header say
 abbrev pub sizes_of : List ℕ → Sizes
@@ -24,8 +24,7 @@ wire_of numbers = record { a = slice_index numbers 0; b = slice_index numbers 1 
 
 -- a fault of the tokens comes before any fault of the numbers
 abbrev pub tokens_first : Option TokenFault → Option BoardKind → Option BoardKind
-tokens_first (Some token.BadNumber) kind = Some BadNumber
-tokens_first (Some token.NumberTooLarge) kind = Some NumberTooLarge
+tokens_first (Some fault) kind = Some (of_token fault)
 tokens_first None kind = kind
 
 -- the header: four numbers, each within its limit

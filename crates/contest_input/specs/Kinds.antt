@@ -1,5 +1,8 @@
 -- The kinds of refusals, by name.
 use Rattle.std.specs.Prelude.{ℕ, List, codes}
+use Rattle.tdm_lines.specs.declared.line.TokenFault.{TokenFault}
+use Rattle.tdm_lines.specs.declared.line.TokenFault.TheVariants as token
+use Rattle.tdm_lines.specs.declared.refusal.Refusal.{Refusal}
 use Rattle.contest_input.specs.declared.kind.BoardKind.{BoardKind}
 use Rattle.contest_input.specs.declared.kind.BoardKind.TheVariants.{NoHeader, BadNumber, NumberTooLarge, WrongCount, CountLimit, UnknownFpga, SelfLoop, UnknownNet, MissingLine, ExtraLine, TotalLimit, TooLong}
 
@@ -17,3 +20,12 @@ name_of MissingLine = codes "MissingLine"
 name_of ExtraLine = codes "ExtraLine"
 name_of TotalLimit = codes "TotalLimit"
 name_of TooLong = codes "TooLong"
+
+-- the kind of a fault of tokens
+abbrev pub of_token : TokenFault → BoardKind
+of_token token.BadNumber = BadNumber
+of_token token.NumberTooLarge = NumberTooLarge
+
+-- the first fault of a board text
+abbrev pub BoardRefusal : Type 0
+BoardRefusal = Refusal BoardKind

@@ -5,7 +5,7 @@ use Rattle.std.specs.List.{list_any}
 use Rattle.tdm_lines.specs.Lines.{Line}
 use Rattle.tdm_problem.specs.Board.{Board, without_repeats}
 use Rattle.tdm_problem.specs.Limits.{most_wires, most_nets, most_groups, most_listed_fpgas, most_listed_nets}
-use Rattle.contest_input.specs.declared.fault.BoardRefusal.{BoardRefusal}
+use Rattle.contest_input.specs.Kinds.{BoardRefusal}
 use Rattle.contest_input.specs.declared.header.Sizes.{Sizes}
 use Rattle.contest_input.specs.declared.kind.BoardKind.{BoardKind}
 use Rattle.contest_input.specs.declared.kind.BoardKind.TheVariants.{MissingLine, ExtraLine}

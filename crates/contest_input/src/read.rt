@@ -1,6 +1,7 @@
 //! A whole board text.
 ghost use Rattle.std.specs.Prelude.{◌≡◌, ◌+◌, ◌≤◌, ◌^◌, length, IfOk, IfErr, Ok};
-ghost use Rattle.contest_input.specs.BoardText.{board_of, IsRefusalOf};
+ghost use Rattle.tdm_lines.specs.Refusals.{IsFaultOf};
+ghost use Rattle.contest_input.specs.BoardText.{board_of};
 
 use crate::fault::BoardFault;
 use crate::reader::BoardReader;
@@ -20,7 +21,7 @@ use tdm_problem::Problem;
 pub fn read_board(alloc: Global, bytes: &[u8]) -> Result<Problem, BoardFault>
     requires { length bytes.now ≤ 2 ^ 28 + 1 }
     ensures board { IfOk result (λ problem. board_of bytes.now ≡ Ok problem) }
-    ensures refused { IfErr result (IsRefusalOf (board_of bytes.now)) }
+    ensures refused { IfErr result (λ fault. IsFaultOf fault (board_of bytes.now)) }
 {
     let mut reader = BoardReader::new(alloc);
     reader.feed(bytes)?;

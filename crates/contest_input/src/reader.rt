@@ -1,10 +1,11 @@
 //! A board text that comes in pieces.
 ghost use Rattle.std.specs.Prelude.{◌≡◌, ◌+◌, ◌≤◌, ◌^◌, ◌++◌, ℕ, List, [], length, IfOk, IfErr, OnOk, OnErr, IsTrue, Ok, Err, alloc_error, true, false};
-ghost use Rattle.contest_input.specs.BoardText.{board_of, IsRefusalOf};
+ghost use Rattle.tdm_lines.specs.Refusals.{IsFaultOf};
+ghost use Rattle.contest_input.specs.BoardText.{board_of};
 ghost use Rattle.contest_input.specs.Reader.{IsAt};
-ghost use Rattle.contest_input.specs.declared.fault.BoardFault.TheVariants.{NoMemory};
+ghost use Rattle.tdm_lines.specs.declared.refusal.ReadingFault.TheVariants.{NoMemory};
 
-use crate::fault::{BoardFault, refused};
+use crate::fault::BoardFault;
 use crate::kind::BoardKind;
 use crate::roles::BoardState;
 use crate::{MAX_BOARD_BYTES, MAX_BOARD_NUMBER};
@@ -17,26 +18,19 @@ use tdm_problem::Problem;
 #[derive(Drop)]
 pub struct BoardReader {
     reading: Reading<BoardState>,
-    spent: bool,
 }
 
 impl Model for BoardReader {
     ghost use Rattle.std.specs.Prelude.{◌≡◌, false};
-    ghost use Rattle.contest_input.specs.Reader.{Fed};
+    ghost use Rattle.tdm_lines.specs.declared.reading.Reading.{Reading};
+    ghost use Rattle.contest_input.specs.declared.roles.BoardState.{BoardState};
     ghost use Rattle.contest_input.specs.Roles.{IsFine};
 
-    ghost Value = { Fed };
+    ghost Value = { Reading BoardState };
 
-    ghost view = { λ r. record {
-      spent = r.spent;
-      scan = r.reading.scan;
-      fed = r.reading.fed;
-      fault = r.reading.fault;
-      count = r.reading.count;
-      state = r.reading.grammar;
-    } };
+    ghost view = { λ r. r.reading };
 
-    ghost invariant = { λ r. r.spent ≡ false → IsFine r.reading.grammar };
+    ghost invariant = { λ r. r.reading.spent ≡ false → IsFine r.reading.grammar };
 }
 
 impl BoardReader {
@@ -47,7 +41,6 @@ impl BoardReader {
     {
         BoardReader {
             reading: Reading::new(BoardState::new(alloc), MAX_BOARD_NUMBER),
-            spent: false,
         }
     }
 
@@ -67,12 +60,7 @@ impl BoardReader {
         ensures spent { OnErr result (IsTrue self.new.spent) }
         ensures stays { self.old.spent ≡ true → result ≡ Err alloc_error }
     {
-        if self.spent {
-            return Err(AllocError);
-        }
-        self.spent = true;
         self.reading.feed(piece)?;
-        self.spent = false;
         Ok(())
     }
 
@@ -82,18 +70,10 @@ impl BoardReader {
         ensures board { IfOk result (λ problem. (text : List ℕ) → IsAt self text
             → board_of text ≡ Ok problem) }
         ensures refused { IfErr result (λ fault. (text : List ℕ) → IsAt self text
-            → IsRefusalOf (board_of text) fault) }
+            → IsFaultOf fault (board_of text)) }
     {
-        if self.spent {
-            return Err(BoardFault::NoMemory);
-        }
-        if self.reading.fed() > MAX_BOARD_BYTES as u64 {
-            return Err(refused(BoardKind::TooLong, 0));
-        }
-        let (state, end) = self.reading.finish()?;
-        match state.finish(end) {
-            Ok(problem) => Ok(problem),
-            Err(refusal) => Err(BoardFault::Refused(refusal)),
-        }
+        let most = MAX_BOARD_BYTES as u64;
+        let (state, end) = self.reading.finish(most, BoardKind::TooLong)?;
+        Ok(state.finish(end)?)
     }
 }

@@ -8,7 +8,7 @@ ghost use Rattle.contest_input.specs.Roles.{Holds, IsFine, IsInWires, IsInNets, 
 ghost use Rattle.tdm_lines.specs.Written.{plain_line};
 ghost use Rattle.contest_input.specs.Faults.{header_fault, wire_fault, net_fault, group_fault};
 ghost use Rattle.contest_input.specs.declared.roles.Role.TheVariants as role;
-ghost use Rattle.contest_input.specs.declared.fault.BoardRefusal.{BoardRefusal};
+ghost use Rattle.contest_input.specs.Kinds.{BoardRefusal};
 
 use crate::fault::BoardRefusal;
 use crate::header::{Sizes, header_fault, sizes_of};

@@ -11,8 +11,9 @@ use Rattle.tdm_problem.specs.declared.solution.WireUse.{WireUse}
 use Rattle.tdm_problem.specs.Board.{Board}
 use Rattle.tdm_problem.specs.Routing.{Routing, wires_of, IsFor}
 use Rattle.tdm_lines.specs.Lines.{Line, lines, line_after}
-use Rattle.solution_text.specs.declared.refusal.SolutionRefusal.{SolutionRefusal}
-use Rattle.solution_text.specs.Reading.{most_bytes, largest_number, next_line, count_said, use_said, by_wire, uses_from, net_from, nets_from, solution_of, ◌>>=◌}
+use Rattle.solution_text.specs.Kinds.{SolutionRefusal}
+use Rattle.tdm_lines.specs.Refusals.{◌>>=◌}
+use Rattle.solution_text.specs.Reading.{most_bytes, largest_number, next_line, count_said, use_said, by_wire, uses_from, net_from, nets_from, solution_of}
 use Rattle.solution_text.proofs.Marking.{list_any-wires_of}
 use Rattle.solution_text.proofs.Sorting.{by_wire-moves}
 

@@ -5,7 +5,6 @@ use Rattle.std.proofs.lemmas.Bool.{le-ltb}
 use Rattle.std.proofs.lemmas.List.Elements.{All-weaker}
 use Rattle.std.proofs.lemmas.List.{append_assoc, append-nil}
 use Rattle.tdm_lines.specs.declared.line.TokenFault.{TokenFault}
-use Rattle.tdm_lines.specs.declared.line.TokenFault.TheVariants as token
 use Rattle.tdm_lines.specs.Lines.{Line, lines, line_after}
 use Rattle.tdm_lines.specs.FirstNumbers.{Firsts, AreFirst}
 use Rattle.tdm_lines.specs.SoFar.{ended_line}
@@ -13,8 +12,9 @@ use Rattle.tdm_problem.specs.declared.solution.WireUse.{WireUse}
 use Rattle.tdm_problem.specs.Board.{Board}
 use Rattle.tdm_problem.specs.Routing.{Routing}
 use Rattle.solution_text.specs.declared.refusal.SolutionKind.TheVariants.{MissingLine}
-use Rattle.solution_text.specs.declared.refusal.SolutionRefusal.{SolutionRefusal}
-use Rattle.solution_text.specs.Reading.{largest_number, refused, count_said, use_said, by_wire, uses_from, nets_from, solution_of, ◌>>=◌}
+use Rattle.solution_text.specs.Kinds.{SolutionRefusal}
+use Rattle.tdm_lines.specs.Refusals.{refused, ◌>>=◌}
+use Rattle.solution_text.specs.Reading.{largest_number, count_said, use_said, by_wire, uses_from, nets_from, solution_of}
 use Rattle.solution_text.specs.Steps.{Marks, with_nets}
 use Rattle.solution_text.specs.Roles.{count_of, use_of, from_use}
 use Rattle.solution_text.proofs.Marking.{marks_none, marks_push}
@@ -90,8 +90,7 @@ module _ (wires after : ℕ) (routing : Routing) where
       let one : left ≡ suc left - 1 = omega arith in
       count-said left n (count_said n numbers) more
       ∙ ap (λ k. count_said n numbers >>= λ count. from_use wires after routing [] count k more) one
-  count-law (suc left) n (Some token.BadNumber) numbers more = refl
-  count-law (suc left) n (Some token.NumberTooLarge) numbers more = refl
+  count-law (suc left) n (Some f) numbers more = refl
 
   -- a use line
   use-said : (uses : List WireUse) (count left : ℕ) (said : Result WireUse SolutionRefusal) (more : List Line)
@@ -107,8 +106,7 @@ module _ (wires after : ℕ) (routing : Routing) where
       ≡ (use_of wires uses n fault numbers >>= λ u. from_use wires after routing (uses ++ u ∷ []) count
       left more)
   use-suc uses count left n None numbers more = use-said uses count left (use_said wires uses n numbers) more
-  use-suc uses count left n (Some token.BadNumber) numbers more = refl
-  use-suc uses count left n (Some token.NumberTooLarge) numbers more = refl
+  use-suc uses count left n (Some f) numbers more = refl
 
   pub use-law : (uses : List WireUse) (count left n : ℕ) (fault : Option TokenFault) (numbers : List ℕ)
       (more : List Line) → 0 < count

@@ -1,5 +1,8 @@
 -- The names of the kinds of refusal.
 use Rattle.std.specs.Prelude.{ℕ, List, codes}
+use Rattle.tdm_lines.specs.declared.line.TokenFault.{TokenFault}
+use Rattle.tdm_lines.specs.declared.line.TokenFault.TheVariants as token
+use Rattle.tdm_lines.specs.declared.refusal.Refusal.{Refusal}
 use Rattle.solution_text.specs.declared.refusal.SolutionKind.{SolutionKind}
 use Rattle.solution_text.specs.declared.refusal.SolutionKind.TheVariants.{BadNumber, NumberTooLarge, WrongCount, UnknownWire, RepeatedWire, MissingLine, ExtraLine, TooLong}
 
@@ -13,3 +16,12 @@ name_of RepeatedWire = codes "RepeatedWire"
 name_of MissingLine = codes "MissingLine"
 name_of ExtraLine = codes "ExtraLine"
 name_of TooLong = codes "TooLong"
+
+-- the kind of a fault of tokens
+abbrev pub of_token : TokenFault → SolutionKind
+of_token token.BadNumber = BadNumber
+of_token token.NumberTooLarge = NumberTooLarge
+
+-- the first fault of a solution text
+abbrev pub SolutionRefusal : Type 0
+SolutionRefusal = Refusal SolutionKind

@@ -1,7 +1,6 @@
 pub mod Kinds
 pub mod Text
 pub mod Reading
-pub mod Fault
 pub mod Steps
 pub mod Roles
 pub mod Reader

@@ -1,15 +1,13 @@
 -- What a text says: the uses of each net of the board, or the first refusal.
-use Rattle.std.specs.Prelude.{ℕ, zero, suc, ◌-◌, ◌^◌, ◌==◌, nat_lt, nat_le, if◌then◌else◌, List, [], ◌∷◌, ◌++◌, length, Option, None, Some, Result, Ok, Err}
+use Rattle.std.specs.Prelude.{ℕ, zero, suc, ◌-◌, ◌^◌, ◌==◌, nat_lt, nat_le, if◌then◌else◌, List, [], ◌∷◌, ◌++◌, length, Result, Ok}
 use Rattle.std.specs.List.{list_any}
 use Rattle.tdm_problem.specs.declared.solution.WireUse.{WireUse}
 use Rattle.tdm_problem.specs.Board.{Board}
 use Rattle.tdm_problem.specs.Routing.{Routing}
-use Rattle.tdm_lines.specs.declared.line.TokenFault.{TokenFault}
-use Rattle.tdm_lines.specs.declared.line.TokenFault.TheVariants as token
 use Rattle.tdm_lines.specs.Lines.{Line, lines, line_after}
-use Rattle.solution_text.specs.declared.refusal.SolutionKind.{SolutionKind}
-use Rattle.solution_text.specs.declared.refusal.SolutionKind.TheVariants.{BadNumber, NumberTooLarge, WrongCount, UnknownWire, RepeatedWire, MissingLine, ExtraLine, TooLong}
-use Rattle.solution_text.specs.declared.refusal.SolutionRefusal.{SolutionRefusal}
+use Rattle.tdm_lines.specs.Refusals.{refused, ◌>>=◌, next_line as next_of}
+use Rattle.solution_text.specs.declared.refusal.SolutionKind.TheVariants.{WrongCount, UnknownWire, RepeatedWire, MissingLine, ExtraLine, TooLong}
+use Rattle.solution_text.specs.Kinds.{SolutionRefusal, of_token}
 
 -- the largest number of a solution text
 abbrev pub largest_number : ℕ
@@ -19,29 +17,11 @@ largest_number = 2 ^ 32 - 1
 abbrev pub most_bytes : ℕ
 most_bytes = 2 ^ 30
 
--- a refusal of this kind, which names this line
-abbrev pub refused : {A : Type 0} → SolutionKind → ℕ → Result A SolutionRefusal
-refused kind line = Err (record { kind = kind; line = line })
-
-infixl 10 ◌>>=◌
--- the first refusal stands
-abbrev pub ◌>>=◌ : {A B : Type 0} → Result A SolutionRefusal → (A → Result B SolutionRefusal)
-    → Result B SolutionRefusal
-(Ok said) >>= next = next said
-(Err refusal) >>= next = Err refusal
-
 -- ---- what a line says
 
--- the line and those behind it, unless its tokens have a fault
-abbrev pub unless_bad : Option TokenFault → Line → List Line → Result (Line × List Line) SolutionRefusal
-unless_bad None line more = Ok (line, more)
-unless_bad (Some token.BadNumber) line more = refused BadNumber line.number
-unless_bad (Some token.NumberTooLarge) line more = refused NumberTooLarge line.number
-
--- the next line and those behind it; where none is left, a missing line is named by the line after the text
+-- the next line and those behind it
 abbrev pub next_line : ℕ → List Line → Result (Line × List Line) SolutionRefusal
-next_line after [] = refused MissingLine after
-next_line after (line ∷ more) = unless_bad line.fault line more
+next_line after lines = next_of of_token after MissingLine lines
 
 -- a count line has one number: how many uses the net has
 abbrev pub count_said : ℕ → List ℕ → Result ℕ SolutionRefusal

@@ -7,29 +7,23 @@ use Rattle.tdm_lines.specs.FirstNumbers.{Firsts, AreFirst}
 use Rattle.tdm_problem.specs.declared.solution.WireUse.{WireUse}
 use Rattle.tdm_problem.specs.Limits.{most_nets}
 use Rattle.tdm_problem.specs.Routing.{Routing}
-use Rattle.tdm_lines.specs.declared.line.TokenFault.TheVariants as token
-use Rattle.solution_text.specs.declared.refusal.SolutionKind.TheVariants.{BadNumber, NumberTooLarge, ExtraLine}
-use Rattle.solution_text.specs.declared.refusal.SolutionRefusal.{SolutionRefusal}
+use Rattle.solution_text.specs.declared.refusal.SolutionKind.TheVariants.{ExtraLine}
+use Rattle.solution_text.specs.Kinds.{SolutionRefusal, of_token}
 use Rattle.solution_text.specs.declared.state.Role.{Role}
 use Rattle.solution_text.specs.declared.state.Role.TheVariants as role
 use Rattle.solution_text.specs.declared.state.SolutionState.{SolutionState}
-use Rattle.solution_text.specs.Reading.{largest_number, refused, count_said, use_said, uses_from, nets_from, ◌>>=◌}
+use Rattle.tdm_lines.specs.Refusals.{refused, line_said, ◌>>=◌}
+use Rattle.solution_text.specs.Reading.{largest_number, count_said, use_said, uses_from, nets_from}
 use Rattle.solution_text.specs.Steps.{Marks, with_nets}
-
--- line n is refused where its tokens have a fault
-abbrev pub clean : ℕ → Option TokenFault → Result (Unit {0}) SolutionRefusal
-clean n None = Ok tt
-clean n (Some token.BadNumber) = refused BadNumber n
-clean n (Some token.NumberTooLarge) = refused NumberTooLarge n
 
 -- what line n says where so many nets are still to come: how many uses the next one has
 abbrev pub count_of : (left n : ℕ) → Option TokenFault → List ℕ → Result ℕ SolutionRefusal
 count_of zero n fault numbers = refused ExtraLine n
-count_of (suc left) n fault numbers = clean n fault >>= λ _. count_said n numbers
+count_of (suc left) n fault numbers = line_said of_token count_said n fault numbers
 
 -- what line n says where a use is still to come: a use that is none of the earlier ones
 abbrev pub use_of : ℕ → List WireUse → ℕ → Option TokenFault → List ℕ → Result WireUse SolutionRefusal
-use_of wires earlier n fault numbers = clean n fault >>= λ _. use_said wires earlier n numbers
+use_of wires earlier n fault numbers = line_said of_token (use_said wires earlier) n fault numbers
 
 -- the uses of a net, of which so many lines are still to come, and then so many further nets
 abbrev pub from_use : ℕ → ℕ → Routing → List WireUse → ℕ → ℕ → List Line → Result Routing SolutionRefusal

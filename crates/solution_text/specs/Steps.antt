@@ -3,8 +3,8 @@ use Rattle.std.specs.Prelude.{◌≡◌, ℕ, ◌<◌, ◌≤◌, nat_eq, ◌==�
 use Rattle.std.specs.List.{list_any, IsDistinct}
 use Rattle.tdm_problem.specs.declared.solution.WireUse.{WireUse}
 use Rattle.tdm_problem.specs.Routing.{Routing, wires_of}
-use Rattle.solution_text.specs.declared.refusal.SolutionRefusal.{SolutionRefusal}
-use Rattle.solution_text.specs.Reading.{◌>>=◌}
+use Rattle.solution_text.specs.Kinds.{SolutionRefusal}
+use Rattle.tdm_lines.specs.Refusals.{◌>>=◌}
 
 -- these nets, and then those that are read
 abbrev pub with_nets : Routing → Result Routing SolutionRefusal → Result Routing SolutionRefusal

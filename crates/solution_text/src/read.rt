@@ -2,7 +2,7 @@
 ghost use Rattle.std.specs.Prelude.{◌≡◌, ◌+◌, ◌≤◌, ◌^◌, length, IfOk, IfErr, Ok};
 ghost use Rattle.tdm_problem.specs.Routing.{IsFor};
 ghost use Rattle.solution_text.specs.Reading.{solution_of};
-ghost use Rattle.solution_text.specs.Fault.{IsFaultOf};
+ghost use Rattle.tdm_lines.specs.Refusals.{IsFaultOf};
 
 use crate::reader::SolutionReader;
 use crate::refusal::SolutionFault;

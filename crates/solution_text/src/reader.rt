@@ -3,13 +3,13 @@ ghost use Rattle.std.specs.Prelude.{◌≡◌, ◌+◌, ◌≤◌, ◌^◌, ◌+
 ghost use Rattle.tdm_problem.specs.Board.{Board};
 ghost use Rattle.tdm_problem.specs.Routing.{IsFor};
 ghost use Rattle.solution_text.specs.Reading.{solution_of};
-ghost use Rattle.solution_text.specs.Fault.{IsFaultOf};
+ghost use Rattle.tdm_lines.specs.Refusals.{IsFaultOf};
 ghost use Rattle.solution_text.specs.Reader.{IsAt};
-ghost use Rattle.solution_text.specs.declared.refusal.SolutionFault.TheVariants.{NoMemory};
+ghost use Rattle.tdm_lines.specs.declared.refusal.ReadingFault.TheVariants.{NoMemory};
 
 use crate::read::MAX_SOLUTION_BYTES;
 use crate::refusal::{SolutionFault, SolutionKind};
-use crate::state::{LARGEST_NUMBER, SolutionState, refusal};
+use crate::state::{LARGEST_NUMBER, SolutionState};
 use std::alloc::{AllocError, Global};
 use std::marker::Model;
 use tdm_lines::Reading;
@@ -19,26 +19,19 @@ use tdm_problem::{Problem, Solution};
 #[derive(Drop)]
 pub struct SolutionReader {
     reading: Reading<SolutionState>,
-    spent: bool,
 }
 
 impl Model for SolutionReader {
     ghost use Rattle.std.specs.Prelude.{◌≡◌, false};
-    ghost use Rattle.solution_text.specs.Reader.{Fed};
+    ghost use Rattle.tdm_lines.specs.declared.reading.Reading.{Reading};
+    ghost use Rattle.solution_text.specs.declared.state.SolutionState.{SolutionState};
     ghost use Rattle.solution_text.specs.Roles.{IsFine};
 
-    ghost Value = { Fed };
+    ghost Value = { Reading SolutionState };
 
-    ghost view = { λ r. record {
-      spent = r.spent;
-      scan = r.reading.scan;
-      fed = r.reading.fed;
-      fault = r.reading.fault;
-      count = r.reading.count;
-      state = r.reading.grammar;
-    } };
+    ghost view = { λ r. r.reading };
 
-    ghost invariant = { λ r. r.spent ≡ false → IsFine r.reading.grammar };
+    ghost invariant = { λ r. r.reading.spent ≡ false → IsFine r.reading.grammar };
 }
 
 impl SolutionReader {
@@ -50,7 +43,6 @@ impl SolutionReader {
         let state = SolutionState::new(alloc, problem.wires(), problem.nets());
         SolutionReader {
             reading: Reading::new(state, LARGEST_NUMBER),
-            spent: false,
         }
     }
 
@@ -71,12 +63,7 @@ impl SolutionReader {
         ensures spent { OnErr result (IsTrue self.new.spent) }
         ensures stays { self.old.spent ≡ true → result ≡ Err alloc_error }
     {
-        if self.spent {
-            return Err(AllocError);
-        }
-        self.spent = true;
         self.reading.feed(piece)?;
-        self.spent = false;
         Ok(())
     }
 
@@ -90,16 +77,8 @@ impl SolutionReader {
         ensures fault { IfErr result (λ fault. (board : Board) (text : List ℕ) → IsAt self board text
             → IsFaultOf fault (solution_of board text)) }
     {
-        if self.spent {
-            return Err(SolutionFault::NoMemory);
-        }
-        if self.reading.fed() > MAX_SOLUTION_BYTES as u64 {
-            return Err(SolutionFault::Refused(refusal(SolutionKind::TooLong, 0)));
-        }
-        let (state, end) = self.reading.finish()?;
-        match state.finish(end) {
-            Ok(solution) => Ok(solution),
-            Err(refusal) => Err(SolutionFault::Refused(refusal)),
-        }
+        let most = MAX_SOLUTION_BYTES as u64;
+        let (state, end) = self.reading.finish(most, SolutionKind::TooLong)?;
+        Ok(state.finish(end)?)
     }
 }

@@ -1,10 +1,8 @@
 //! Why a text is no solution.
 ghost use Rattle.std.specs.Prelude.{◌≡◌};
 ghost use Rattle.solution_text.specs.Kinds.{name_of};
-ghost use Rattle.solution_text.specs.declared.refusal.SolutionFault.TheVariants.{NoMemory};
 
-use std::alloc::AllocError;
-use thiserror::Error;
+use tdm_lines::{ReadingFault, Refusal, RefusalKind, TokenFault};
 
 /// What is wrong with a text that is no solution. Of the kinds from BadNumber to RepeatedWire that a line
 /// has, the earlier one is named; a line past the last one is an ExtraLine whatever it holds. TooLong comes
@@ -47,31 +45,21 @@ impl SolutionKind {
     }
 }
 
-/// What is wrong with a text, and on which line.
-#[derive(Clone, Copy, Debug, PartialEq, Eq)]
-pub struct SolutionRefusal {
-    /// What is wrong.
-    pub kind: SolutionKind,
-    /// The line at fault, from 1. A missing line is said to stand where the text ends, on the line that is
-    /// the number of line feeds plus 1; 0 for TooLong.
-    pub line: u32,
-}
+impl RefusalKind for SolutionKind {
+    ghost use Rattle.solution_text.specs.Kinds.{of_token};
 
-/// Why reading a solution gave none.
-#[derive(Clone, Copy, Debug, PartialEq, Eq, Error)]
-pub enum SolutionFault {
-    /// The text is no solution for the board.
-    #[error("the solution text is refused")]
-    Refused(SolutionRefusal),
-    /// Memory was wanting.
-    #[error("memory was wanting")]
-    NoMemory,
-}
+    ghost of_token = { of_token };
 
-impl From<AllocError> for SolutionFault {
-    ghost from_gives = { λ _ fault. fault ≡ NoMemory };
-
-    fn from(_error: AllocError) -> SolutionFault {
-        SolutionFault::NoMemory
+    fn of_token(fault: TokenFault) -> SolutionKind {
+        match fault {
+            TokenFault::BadNumber => SolutionKind::BadNumber,
+            TokenFault::NumberTooLarge => SolutionKind::NumberTooLarge,
+        }
     }
 }
+
+/// The first fault of a solution text. The line is 0 for TooLong.
+pub type SolutionRefusal = Refusal<SolutionKind>;
+
+/// Why reading a solution gave none.
+pub type SolutionFault = ReadingFault<SolutionKind>;

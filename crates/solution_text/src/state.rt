@@ -1,17 +1,17 @@
 //! What the lines of a solution text are for, and what they say.
-ghost use Rattle.std.specs.Prelude.{◌≡◌, ◌≢◌, ◌+◌, ◌-◌, ◌<◌, ◌≤◌, ◌++◌, ℕ, List, [], ◌∷◌, length, take, slice_index, All, OnOk, IfOk, IfErr, None, Err};
+ghost use Rattle.std.specs.Prelude.{◌≡◌, ◌≢◌, ◌+◌, ◌-◌, ◌<◌, ◌≤◌, ◌++◌, ℕ, List, [], ◌∷◌, length, take, slice_index, All, OnOk, IfOk, None};
 ghost use Rattle.tdm_lines.specs.Lines.{Line};
 ghost use Rattle.tdm_lines.specs.SoFar.{ended_line};
 ghost use Rattle.tdm_problem.specs.Limits.{most_nets};
 ghost use Rattle.solution_text.specs.Reading.{largest_number};
-ghost use Rattle.solution_text.specs.Roles.{Reads, Holds, IsFine, clean, count_of, use_of, said_of, from_use};
+ghost use Rattle.solution_text.specs.Roles.{Reads, Holds, IsFine, count_of, use_of, said_of, from_use};
 ghost use Rattle.solution_text.specs.Steps.{Marks};
 ghost use Rattle.solution_text.specs.declared.state.Role.TheVariants as role;
 
 use crate::refusal::{SolutionKind, SolutionRefusal};
 use crate::said::{count_said, sort_by_wire, use_said};
 use std::alloc::{AllocError, Global};
-use tdm_lines::{FirstNumbers, Grammar, TokenFault};
+use tdm_lines::{FirstNumbers, Grammar, TokenFault, clean};
 use tdm_problem::{Solution, WireUse};
 
 /// The largest number of a solution text.
@@ -22,18 +22,6 @@ pub(crate) fn refusal(kind: SolutionKind, line: u32) -> SolutionRefusal
     ensures { result ≡ record { kind = kind; line = line } }
 {
     SolutionRefusal { kind, line }
-}
-
-/// Refuses a line whose tokens have a fault.
-fn clean(fault: Option<TokenFault>, line: u32) -> Result<(), SolutionRefusal>
-    ensures none { OnOk result (fault ≡ None) }
-    ensures said { IfErr result (λ why. clean line fault ≡ Err why) }
-{
-    match fault {
-        None => Ok(()),
-        Some(TokenFault::BadNumber) => Err(refusal(SolutionKind::BadNumber, line)),
-        Some(TokenFault::NumberTooLarge) => Err(refusal(SolutionKind::NumberTooLarge, line)),
-    }
 }
 
 /// What the next line is for.

@@ -3,14 +3,11 @@ use Rattle.tdm_desk.specs.declared.slots.InSlot.TheVariants.{In0, In1}
 use Rattle.tdm_desk.specs.Files.{Name}
 use Rattle.tdm_problem.specs.Board.{Board}
 use Rattle.tdm_problem.specs.Routing.{Routing}
-use Rattle.contest_input.specs.declared.fault.BoardRefusal.{BoardRefusal}
+use Rattle.contest_input.specs.Kinds.{BoardRefusal, name_of as board_fault}
 use Rattle.contest_input.specs.BoardText.{board_of, most_bytes as most_board_bytes}
-use Rattle.contest_input.specs.Kinds.{name_of as board_fault}
-use Rattle.solution_text.specs.declared.refusal.SolutionRefusal.{SolutionRefusal}
+use Rattle.solution_text.specs.Kinds.{SolutionRefusal, name_of as solution_fault}
 use Rattle.solution_text.specs.Reading.{solution_of, most_bytes as most_solution_bytes}
-use Rattle.solution_text.specs.Kinds.{name_of as solution_fault}
-use Rattle.bound_cert.specs.declared.refusal.CertRefusal.{CertRefusal}
-use Rattle.bound_cert.specs.CertKinds.{name_of as cert_fault}
+use Rattle.bound_cert.specs.CertKinds.{CertRefusal, name_of as cert_fault}
 use Rattle.bound_cert.specs.Certificate.{Cert}
 use Rattle.bound_cert.specs.CertReading.{cert_of, most_bytes as most_cert_bytes}
 use Rattle.command_run.specs.Outcome.{Faults}

@@ -8,4 +8,5 @@ pub mod ScanSteps
 pub mod SoFarLemmas
 pub mod TextLemmas
 pub mod TokenLemmas
+pub mod TooLong
 pub mod WrittenLemmas

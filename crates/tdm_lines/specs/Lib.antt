@@ -2,6 +2,8 @@ pub mod Digits
 pub mod FirstNumbers
 pub mod Lines
 pub mod Pending
+pub mod Reader
+pub mod Refusals
 pub mod Scan
 pub mod SoFar
 pub mod Tokens

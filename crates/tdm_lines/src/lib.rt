@@ -13,7 +13,9 @@ mod first_numbers;
 mod grammar;
 mod line;
 mod pushed;
+mod reader;
 mod reading;
+mod refusal;
 mod scan;
 #[cfg(test)]
 mod tests;
@@ -25,3 +27,4 @@ pub use grammar::Grammar;
 pub use line::{TokenFault, TokenLine, line_after, token_lines};
 pub use pushed::{Scan, ScanStep, TokenEnd};
 pub use reading::Reading;
+pub use refusal::{ReadingFault, Refusal, RefusalKind, clean, refused};

@@ -1,5 +1,5 @@
 //! The loop over the bytes of a text.
-ghost use Rattle.std.specs.Prelude.{◌≡◌, ◌+◌, ◌<◌, ◌≤◌, ◌^◌, ◌++◌, ℕ, List, [], ◌∷◌, length, take, slice_range, map, OnOk, IsFalse, None, slice_index, IfOk};
+ghost use Rattle.std.specs.Prelude.{◌≡◌, ◌+◌, ◌<◌, ◌≤◌, ◌^◌, ◌++◌, ℕ, List, [], ◌∷◌, length, take, slice_range, map, OnOk, IsFalse, None, slice_index, IfOk, false};
 ghost use Rattle.tdm_lines.specs.Lines.{Line, line_after, lines, put_line};
 ghost use Rattle.tdm_lines.specs.Scan.{is_token_byte, reading_of, worse_of};
 ghost use Rattle.tdm_lines.specs.Pending.{end_of, unfinished, ending};
@@ -14,14 +14,16 @@ use std::alloc::AllocError;
 /// A text that was read so far, and what it made of its grammar's state.
 ///
 /// Of the line in progress it keeps how many tokens it has and the first fault by the order of kinds. Its
-/// numbers are kept by the grammar, as far as it wants them. After an error nothing is said of it.
+/// numbers are kept by the grammar, as far as it wants them. After a want of memory it is spent, and answers
+/// so from then on.
 #[derive(Drop)]
 pub struct Reading<G> {
-    scan: Scan,
-    fed: u64,
+    pub(crate) spent: bool,
+    pub(crate) scan: Scan,
+    pub(crate) fed: u64,
     fault: Option<TokenFault>,
     count: u32,
-    grammar: G,
+    pub(crate) grammar: G,
     ghost few: { (scan.line ≤ fed + 1) × (count ≤ fed) × (fed < 2 ^ 31) },
 }
 
@@ -29,6 +31,7 @@ impl<G: Grammar + Drop> Reading<G> {
     /// The state at the beginning of a text where numbers are at most `max`.
     pub fn new(grammar: G, max: u64) -> Reading<G>
         ensures grammar { result.grammar ≡ grammar }
+        ensures kept { result.spent ≡ false }
         ensures fed { result.fed ≡ 0 }
         ensures max { result.scan.max ≡ max }
         ensures stands { G.reads grammar [] → G.holds grammar []
@@ -36,6 +39,7 @@ impl<G: Grammar + Drop> Reading<G> {
             result.fault result.count result.grammar [] }
     {
         Reading {
+            spent: false,
             scan: Scan::new(max),
             fed: 0,
             fault: None,
@@ -153,8 +157,8 @@ impl<G: Grammar + Drop> Reading<G> {
         end
     }
 
-    /// Takes the next piece of the text. It does not matter how the text is cut into pieces.
-    pub fn feed(&mut self, piece: &[u8]) -> Result<(), AllocError>
+    /// Takes the next piece of the text. After an error nothing is said of the state.
+    pub(crate) fn take(&mut self, piece: &[u8]) -> Result<(), AllocError>
         requires fine { G.fine self.old.grammar }
         requires room { self.old.fed + length piece.now < 2 ^ 31 }
         ensures fine { OnOk result (G.fine self.new.grammar) }
@@ -179,7 +183,7 @@ impl<G: Grammar + Drop> Reading<G> {
     }
 
     /// Ends the text. Answers what its lines made of the grammar's state, and the number of its last line.
-    pub fn finish(mut self) -> Result<(G, u32), AllocError>
+    pub(crate) fn close(mut self) -> Result<(G, u32), AllocError>
         requires fine { G.fine self.grammar }
         requires room { self.fed + 1 < 2 ^ 31 }
         ensures fine { IfOk result (λ r. G.fine r.0) }

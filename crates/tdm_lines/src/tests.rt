@@ -1,8 +1,8 @@
 ghost use Rattle.std.specs.Prelude.{◌≤◌, ◌^◌, [], length};
 
 use crate::{
-    FirstNumbers, FoundLine, Grammar, LineCursor, Reading, Scan, ScanStep, TokenEnd, TokenFault,
-    decimal, line_after, token_lines,
+    FirstNumbers, FoundLine, Grammar, LineCursor, Reading, ReadingFault, Refusal, RefusalKind,
+    Scan, ScanStep, TokenEnd, TokenFault, clean, decimal, line_after, refused, token_lines,
 };
 use std::alloc::{AllocError, Global};
 use std::process::Abort;
@@ -183,13 +183,21 @@ impl Grammar for Tally {
     }
 }
 
-/// Feeds a short text in pieces of this length, with an empty piece before each.
+impl RefusalKind for TokenFault {
+    ghost of_token = { λ fault. fault };
+
+    fn of_token(fault: TokenFault) -> TokenFault {
+        fault
+    }
+}
+
+/// Feeds a text of at most 18 bytes in pieces of this length, with an empty piece before each.
 fn read_in_pieces(
     rt: &impl Abort,
     alloc: Global,
     text: &[u8],
     length: usize,
-) -> Result<(Tally, u32), Fail> {
+) -> Result<(Tally, u32), ReadingFault<TokenFault>> {
     let numbers = Vec::new(alloc);
     let mut reading = Reading::new(Tally { numbers, faults: 0 }, 9);
     assert!(rt; length > 0);
@@ -199,7 +207,7 @@ fn read_in_pieces(
         reading.feed(piece)?;
     }
     assert!(rt; reading.fed() < 100);
-    Ok(reading.finish()?)
+    reading.finish(18, TokenFault::NumberTooLarge)
 }
 
 #[test]
@@ -223,4 +231,13 @@ fn keeps_the_first_numbers_of_a_line(rt: HostRuntime) -> Result<(), Fail> {
     first.clear();
     assert_eq!(rt; first.numbers().len(), 0);
     Ok(())
+}
+
+#[test]
+fn refuses_a_text_that_is_too_long_and_a_line_at_fault(rt: HostRuntime) {
+    let answer = read_in_pieces(&rt, rt.alloc(), b"1 2 3 4 5 6 7 8 9 1", 7).err();
+    assert!(rt; answer == Some(refused(TokenFault::NumberTooLarge, 0)));
+    let (kind, line) = (TokenFault::BadNumber, 3);
+    assert!(rt; clean(Some(kind), line) == Err(Refusal { kind, line }));
+    assert!(rt; clean::<TokenFault>(None, line) == Ok(()));
 }

@@ -4,7 +4,7 @@ use Rattle.tdm_lines.specs.Lines.{Line}
 use Rattle.tdm_lines.specs.SoFar.{ended_line}
 use Rattle.bound_cert.specs.declared.refusal.CertTextKind.TheVariants.{UnknownPotential}
 use Rattle.bound_cert.specs.declared.state.Role.{Role}
-use Rattle.bound_cert.specs.CertFaults.{IsFaultOf}
+use Rattle.tdm_lines.specs.Refusals.{IsFaultOf}
 use Rattle.bound_cert.specs.CertReading.{number_said, unless_more}
 use Rattle.bound_cert.specs.Roles.{said_in, so_far, IsInRole}
 use Rattle.bound_cert.proofs.RoleLaws.{section-refused, section-taken}

@@ -1,6 +1,6 @@
 use Rattle.std.proofs.Common.{◌∷◌, sym, subst}
 use Rattle.tdm_lines.specs.SoFar.{ended_line}
-use Rattle.bound_cert.specs.CertFaults.{IsFaultOf}
+use Rattle.tdm_lines.specs.Refusals.{IsFaultOf}
 use Rattle.bound_cert.specs.Roles.{said_in, so_far}
 use Rattle.bound_cert.specs.declared.state.Role.{Role}
 use Rattle.bound_cert.proofs.RoleLaws.{header-refused}

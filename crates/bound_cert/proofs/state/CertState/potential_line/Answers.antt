@@ -3,7 +3,7 @@ use Rattle.std.proofs.lemmas.Grind.{common_steps}
 use Rattle.tdm_lines.specs.Lines.{Line}
 use Rattle.tdm_lines.specs.SoFar.{ended_line}
 use Rattle.bound_cert.specs.declared.state.Role.{Role}
-use Rattle.bound_cert.specs.CertFaults.{IsFaultOf}
+use Rattle.tdm_lines.specs.Refusals.{IsFaultOf}
 use Rattle.bound_cert.specs.CertReading.{potential_said}
 use Rattle.bound_cert.specs.Roles.{past_potentials, said_in, so_far, IsInRole}
 use Rattle.bound_cert.proofs.RoleLaws.{section-refused, section-taken, section-done}

@@ -32,7 +32,8 @@ returns-clause-fine c =
             stamped.0,
             grind (arith, common_steps),
             rw length-set stamped.2,
-            marks-more now.stamps.items now.uses.items _ c.args.used c.stamp-stamp.result (length now.solution)
+            marks-more now.stamps.items now.uses.items _ c.args.used c.stamp-stamp.result
+                (length now.solution)
                 stamped.3 c.requires.there c.requires.unused c.stamp-stamp.ensures items,
           );
     }

@@ -2,7 +2,7 @@ use Rattle.std.proofs.Common.{◌≡◌, ℕ, ◌-◌, ◌++◌, [], ◌∷◌, 
 use Rattle.tdm_lines.specs.Lines.{Line}
 use Rattle.tdm_lines.specs.SoFar.{ended_line}
 use Rattle.tdm_problem.specs.declared.solution.WireUse.{WireUse}
-use Rattle.solution_text.specs.Reading.{◌>>=◌}
+use Rattle.tdm_lines.specs.Refusals.{◌>>=◌}
 use Rattle.solution_text.specs.Roles.{IsStamped, said_in, from_use}
 use Rattle.solution_text.specs.declared.state.Role.{Role}
 use Rattle.solution_text.proofs.RoleLaws.{count-law, use-law}

@@ -1,7 +1,7 @@
 use Rattle.std.proofs.Common.{ℕ, List, ap, sym, ◌∙◌, subst, arith}
 use Rattle.tdm_lines.specs.SoFar.{Stands}
 use Rattle.tdm_lines.proofs.KeepsLemmas.{take-range, take-range_more}
-use Rattle.tdm_lines.proofs.reading.Reading.feed.Goals as goal
+use Rattle.tdm_lines.proofs.reading.Reading.take.Goals as goal
 
 pub loop-at-preserved-then-at-piece : goal.loop-at-preserved-then-at-piece
 loop-at-preserved-then-at-piece g c =

@@ -1,6 +1,6 @@
 use Rattle.std.proofs.Common.{◌≡◌, ℕ, ◌+◌, ◌-◌, ◌≤◌, List, ◌++◌, length, take}
 use Rattle.tdm_lines.specs.SoFar.{Stands}
-use Rattle.tdm_lines.proofs.reading.Reading.feed.Given as goal
+use Rattle.tdm_lines.proofs.reading.Reading.take.Given as goal
 
 abbrev pub invariant-loop-at : goal.invariant-loop-at
 invariant-loop-at g l = record {

@@ -3,7 +3,7 @@ use Rattle.tdm_lines.specs.Lines.{Line, put_line, lines}
 use Rattle.tdm_lines.specs.Pending.{unfinished}
 use Rattle.tdm_lines.specs.SoFar.{token_there}
 use Rattle.tdm_lines.proofs.SoFarLemmas.{so_far-end}
-use Rattle.tdm_lines.proofs.reading.Reading.finish.Goals as goal
+use Rattle.tdm_lines.proofs.reading.Reading.close.Goals as goal
 
 pub returns-clause-read : goal.returns-clause-read
 returns-clause-read g c = λ text most stands.
