@@ -1,6 +1,5 @@
 -- How far a potential rises along a walk: the levels between the ends of each wire are taken away in turn,
--- until no
--- level is left that the walk could cross.
+-- until no level is left that the walk could cross.
 use Rattle.std.proofs.Common.{◌≡◌, ℕ, zero, suc, ◌+◌, ◌-◌, ◌≤◌, ◌⊎◌, List, [], ◌∷◌, Some, length, min, max, sym, ap, ◌∙◌, inl, inr, ⊎_elim, arith}
 use Rattle.std.specs.Prelude.{Contains, sum_by, slice_get}
 use Rattle.std.proofs.lemmas.List.Sums.{sum_by-cons}

@@ -48,8 +48,7 @@ abbrev pub weight_sum : Board → Cert → (spreads : ℕ → ℕ) → ℕ
 weight_sum board cert spreads = sum_below (length board.nets) (λ n. weight_of_net board cert n * spreads n)
 
 -- what a bound times the divisor must reach where nets are spread so, 0 where that is negative, by a
--- certificate of this
--- kind
+-- certificate of this kind
 abbrev pub demand_by : CertKind → Board → Cert → (spreads : ℕ → ℕ) → ℕ
 demand_by Share board cert spreads = 2 * root_sum board cert spreads - sum_by (λ l. l * l) cert.lengths
 demand_by (Hop unit) board cert spreads = 2 * weight_sum board cert spreads

@@ -6,8 +6,7 @@ use Rattle.bound_cert.specs.declared.certificate.CertKind.TheVariants.{Share, Ho
 use Rattle.bound_cert.specs.Limits.{most_weight, most_length, most_unit, most_potentials, most_potential_value}
 
 -- a kind, whether the spread of a net is its growth, the weight of each group, the length of each wire, the
--- potentials, and
--- for each net which of them it chooses: 0 for none, else the potential's number plus 1
+-- potentials, and for each net which of them it chooses: 0 for none, else the potential's number plus 1
 pub record Cert : Type 0 where
   pub kind : CertKind
   pub grows : Bool

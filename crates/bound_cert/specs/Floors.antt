@@ -35,8 +35,7 @@ abbrev pub uniform_length : Board → (depths : List ℕ) → ℕ
 uniform_length board depths = part_of (rooted_depths board depths) (length board.wires)
 
 -- the least even number that, times the weight of all groups, is at least twice the length times the rooted
--- depths
--- less its square for each wire; 0 without groups, and without wires
+-- depths less its square for each wire; 0 without groups, and without wires
 abbrev pub share_floor : Board → (depths : List ℕ) → ℕ
 share_floor board depths =
     let long = uniform_length board depths in

@@ -25,8 +25,7 @@ abbrev pub worn : Arcs → (heights : ℕ → ℕ) → Arcs
 worn rests heights e from to = rests e from to - (heights from - heights to)
 
 -- one after another the FPGAs grow until they reach the root or one that is still to grow, and wear the
--- rests; so much
--- do they grow together
+-- rests; so much do they grow together
 abbrev pub GrowOver : Board → (root : ℕ) → (growing : List ℕ) → (rests : Arcs) → (growth : ℕ) → Type 0
 GrowOver board root [] rests growth = growth ≡ 0
 GrowOver board root (x ∷ more) rests growth =
@@ -35,8 +34,7 @@ GrowOver board root (x ∷ more) rests growth =
     × ((rest : ℕ) × GrowOver board root more (worn rests heights) rest × (growth ≡ reach + rest)))
 
 -- so much do these FPGAs grow over wires of these lengths: the first is the root and the others grow in
--- order, or all
--- wires of the board do not join them and they do not grow
+-- order, or all wires of the board do not join them and they do not grow
 abbrev pub IsGrowth : Board → (wire_length : ℕ → ℕ) → List ℕ → (growth : ℕ) → Type 0
 IsGrowth board wire_length [] growth = growth ≡ 0
 IsGrowth board wire_length (root ∷ growing) growth =

@@ -67,7 +67,7 @@ pub record IsFirstDeepest (board : Board) (depths : List ℕ) (g : ℕ) : Type 0
 -- the group has weight 1 where it is the first of the deepest, and else 0
 abbrev pub IsHopWeight : Board → (depths : List ℕ) → (g weight : ℕ) → Type 0
 IsHopWeight board depths g weight = (IsFirstDeepest board depths g × (weight ≡ 1))
-    ⊎ ((IsFirstDeepest board depths g → ⊥) × (weight ≡ 0))
+    ⊎ ((¬ IsFirstDeepest board depths g) × (weight ≡ 0))
 
 -- the certificate by hops of unit 1, for the first of the deepest groups
 pub record IsHopGroupCert (board : Board) (cert : Cert) : Type 0 where

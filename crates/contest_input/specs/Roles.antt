@@ -85,8 +85,7 @@ room_of role.End = 1
 room_of (role.Refused refusal) = 1
 
 -- what is kept of a line with these numbers: all of them where they are fewer than there is room for, and
--- else as many as there
--- is room for, with one that is too large where the line has one
+-- else as many as there is room for, with one that is too large where the line has one
 pub record IsKeptOf (room : ℕ) (kept numbers : List ℕ) : Type 0 where
   pub short : length numbers < room → kept ≡ numbers
   pub long : room ≤ length numbers → room ≤ length kept
