@@ -44,7 +44,7 @@ returns-in_err-state-clause-fault c =
 pub returns-in_err-finish-clause-fault : goal.returns-in_err-finish-clause-fault
 returns-in_err-finish-clause-fault c =
     let p =
-        err_from_is_err_and c.from_residual-in_err-finish.result c.from_residual-in_err-finish.ensures.1 in
+    err_from_is_err_and c.from_residual-in_err-finish.result c.from_residual-in_err-finish.ensures.1 in
     rw (p.1, p.2) (λ board text there.
     whole (goal.at.returns-in_err-finish-clause-fault c).In_ok-state board text there
     ∙ sym c.finish-2.ensures ∙ c.in_err-finish.was)
