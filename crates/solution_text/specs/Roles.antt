@@ -1,9 +1,9 @@
 -- Where a solution text stands: what its lines so far have said, and what the lines that still come make of
 -- that.
-use Rattle.std.specs.Prelude.{◌≡◌, ℕ, zero, suc, ◌+◌, ◌-◌, ◌<◌, ◌≤◌, List, [], ◌∷◌, ◌++◌, length, All, Option, Some, None, Result, Ok, Err}
+use Rattle.std.specs.Prelude.{◌≡◌, ℕ, zero, suc, ◌+◌, ◌-◌, ◌<◌, ◌≤◌, List, ◌∷◌, ◌++◌, length, All, Option, Result, Ok, Err}
 use Rattle.tdm_lines.specs.declared.line.TokenFault.{TokenFault}
 use Rattle.tdm_lines.specs.Lines.{Line}
-use Rattle.tdm_lines.specs.FirstNumbers.{Firsts, AreFirst}
+use Rattle.tdm_lines.specs.FirstNumbers.{AreFirst}
 use Rattle.tdm_problem.specs.declared.solution.WireUse.{WireUse}
 use Rattle.tdm_problem.specs.Limits.{most_nets}
 use Rattle.tdm_problem.specs.Routing.{Routing}
