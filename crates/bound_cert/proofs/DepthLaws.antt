@@ -9,7 +9,7 @@ use Rattle.tdm_problem.specs.Walk.{IsWalk, AnyWire, IsConnectable}
 use Rattle.tdm_problem.specs.Value.{largest}
 use Rattle.bound_cert.specs.Certificate.{value_at}
 use Rattle.bound_cert.specs.Depths.{IsDepth, IsDepthOver}
-use Rattle.bound_cert.specs.Makers.{IsRootValue, IsRootPotential}
+use Rattle.bound_cert.specs.Makers.{IsSourceValue, IsSourcePotential}
 use Rattle.bound_cert.proofs.Largest.{largest-above, largest-within, largest-reached}
 
 -- the FPGAs of a net are a row of the board's
@@ -23,14 +23,15 @@ pub source_in : (board : Board) (n : ℕ) → IsRowBelow board.fpgas (terminals_
 source_in board n row = Contains-get_or (terminals_of board n) 0 0 row.some
 
 -- at an FPGA where a walk leads the value is the distance
-distance_where_walk : (board : Board) (wire_length : ℕ → ℕ) (root f value : ℕ)
-    → IsRootValue board wire_length root f value → (es : List ℕ) × IsWalk board (AnyWire board) root es f
-    → IsDistance board wire_length root f value
-distance_where_walk board wire_length root f value (inl distance) walk = distance
-distance_where_walk board wire_length root f value (inr none) walk = absurd (none.0 walk.0 walk.1)
+distance_where_walk : (board : Board) (wire_length : ℕ → ℕ) (source f value : ℕ)
+    → IsSourceValue board wire_length source f value
+    → (es : List ℕ) × IsWalk board (AnyWire board) source es f → IsDistance board wire_length source f value
+distance_where_walk board wire_length source f value (inl distance) walk = distance
+distance_where_walk board wire_length source f value (inr none) walk = absurd (none.0 walk.0 walk.1)
 
 module _ (board : Board) (wire_length : ℕ → ℕ) (n : ℕ) (row : IsRowBelow board.fpgas (terminals_of board n))
-    (potential : List ℕ) (from_source : IsRootPotential board wire_length (source_of board n) potential) where
+    (potential : List ℕ)
+    (from_source : IsSourcePotential board wire_length (source_of board n) potential) where
   -- the value at each FPGA of the net is its distance from the source
   distance_at_terminal : IsConnectable board (terminals_of board n) → (f : ℕ)
       → Contains (terminals_of board n) f
@@ -75,7 +76,7 @@ pub record IsDepthOf (board : Board) (n depth : ℕ) (values : List ℕ) : Type 
   pub within : (most : ℕ) → All (λ v. v ≤ most) values → depth ≤ most
 
 pub depth_read : (board : Board) (n h : ℕ) (values fpgas : List ℕ) → IsBoard board → n < length board.nets
-    → IsConnectable board (terminals_of board n) → IsRootPotential board (λ _. 1) (source_of board n) values
+    → IsConnectable board (terminals_of board n) → IsSourcePotential board (λ _. 1) (source_of board n) values
     → terminals_of board n ≡ fpgas → h ≡ largest (map (value_at values) fpgas) → IsDepthOf board n h values
 depth_read board n h values fpgas is there joins hops net read =
     let row = terminals_row board n is there in

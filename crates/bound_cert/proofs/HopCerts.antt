@@ -13,18 +13,18 @@ use Rattle.bound_cert.specs.declared.certificate.CertKind.{CertKind}
 use Rattle.bound_cert.specs.declared.certificate.CertKind.TheVariants.{Hop}
 use Rattle.bound_cert.specs.Certificate.{Cert, IsCertFor, length_of, value_at}
 use Rattle.bound_cert.specs.Valid.{IsValid}
-use Rattle.bound_cert.specs.Sources.{roots_of}
+use Rattle.bound_cert.specs.Sources.{sources_of}
 use Rattle.bound_cert.specs.Bound.{bound_of, demand_of_kind, divisor_of_kind, least_even, net_spread, weight_of_net, weight_spreads}
 use Rattle.bound_cert.specs.Depths.{AreDepths, depth_of, group_depth}
 use Rattle.bound_cert.specs.Floors.{hop_floor, IsHopFloor}
-use Rattle.bound_cert.specs.Makers.{AreRootPotentials, ChooseSources, HasRootPotentials, IsFirstDeepest, IsHopWeight, IsHopGroupCert}
+use Rattle.bound_cert.specs.Makers.{AreSourcePotentials, ChooseSources, HasSourcePotentials, IsFirstDeepest, IsHopWeight, IsHopGroupCert}
 use Rattle.bound_cert.proofs.Largest.{largest-above, largest-within}
 use Rattle.bound_cert.proofs.Deepest.{first_deepest_unique}
 use Rattle.bound_cert.proofs.OneWeight.{one_weight, length-one_weight, one_weight-same, one_weight-other, one_weight-small, sum-one_weight, weighted-one}
 use Rattle.bound_cert.proofs.Parts.{potentials_long}
 use Rattle.bound_cert.proofs.Scaled.{potential_scaled}
-use Rattle.bound_cert.proofs.Validity.{IsValid-from_roots}
-use Rattle.bound_cert.proofs.RootSpreads.{net_spread_is}
+use Rattle.bound_cert.proofs.Validity.{IsValid-from_sources}
+use Rattle.bound_cert.proofs.SourceSpreads.{net_spread_is}
 
 -- the weights are 1 for the first of the deepest groups alone
 pub record AreHopWeights (board : Board) (depths weights : List ℕ) : Type 0 where
@@ -92,7 +92,7 @@ least_even-double : (n : ℕ) → least_even (2 * n) 1 ≡ 2 * n
 least_even-double n = omega arith
 
 module _ (board : Board) (depths : List ℕ) (cert : Cert) (is : IsBoard board) (even : (e : ℕ)
-    → e < length board.wires → length_of cert e ≡ 1) (has : HasRootPotentials board cert)
+    → e < length board.wires → length_of cert e ≡ 1) (has : HasSourcePotentials board cert)
     (are_depths : AreDepths board depths) where
   -- the weighted spreads are the depths of the groups, weighted
   weight_spreads_are : weight_spreads board cert ≡ weighted_by (group_depth depths) board.groups cert.weights
@@ -143,7 +143,7 @@ pub record IsHopMade (board : Board) (cert : Cert) : Type 0 where
 
 pub IsHopMade-from_parts : (board : Board) (depths weights lengths choices : List ℕ)
     (potentials : List (List ℕ)) → IsBoard board → AreHopWeights board depths weights
-    → lengths ≡ replicate (length board.wires) 1 → AreRootPotentials board (λ _. 1) potentials
+    → lengths ≡ replicate (length board.wires) 1 → AreSourcePotentials board (λ _. 1) potentials
     → ChooseSources board choices → AreDepths board depths
     → IsHopMade board (record {
       kind = Hop 1;
@@ -166,10 +166,10 @@ IsHopMade-from_parts board depths weights lengths choices potentials is weighted
     let even : (e : ℕ) → e < length board.wires → length_of cert e ≡ 1 =
     λ e there. ap (λ (ls : List ℕ). get_or ls e 0) long
     ∙ get_or-replicate (length board.wires) e 1 0 there in
-    let has : HasRootPotentials board cert = record {
+    let has : HasSourcePotentials board cert = record {
       potentials = record {
         count = hops.count;
-        each = λ p there. potential_scaled board (length_of cert) 1 even (slice_index (roots_of board) p)
+        each = λ p there. potential_scaled board (length_of cert) 1 even (slice_index (sources_of board) p)
             (get_or potentials p []) (get_or potentials p [])
             (hops.each p there) refl (λ f below. sym (one-mul (value_at (get_or potentials p []) f)));
       };
@@ -191,7 +191,7 @@ IsHopMade-from_parts board depths weights lengths choices potentials is weighted
         potentials = potentials_long board (λ _. 1) potentials hops;
         choices = chosen.count;
       };
-      valid = IsValid-from_roots board cert is has;
+      valid = IsValid-from_sources board cert is has;
       floor = record {
         depths = depths;
         are_depths = are_depths;

@@ -10,31 +10,31 @@ use Rattle.tdm_problem.specs.Limits.{most_fpgas}
 use Rattle.board_graph.specs.Graph.{Graph, IsGraph, graph_of, board_of}
 use Rattle.shortest_forest.specs.Reach.{Reach, HasNoWalk, HasHops, IsHopForest, distance_of}
 use Rattle.shortest_forest.proofs.HopLaws.{hops_at}
-use Rattle.bound_cert.specs.Makers.{IsRootValue, IsRootPotential}
+use Rattle.bound_cert.specs.Makers.{IsSourceValue, IsSourcePotential}
 use Rattle.bound_cert.proofs.ChainLaws.{chain_short}
 
 -- a distance, or 0 where there is none
 abbrev pub or_zero : Option ℕ → ℕ
 or_zero x = unwrap_or x 0
 
-value_of : (board : Board) (wire_length : ℕ → ℕ) (root f : ℕ) (x : Option ℕ)
-    → MatchOption x (HasNoWalk board root f) (IsDistance board wire_length root f)
-    → IsRootValue board wire_length root f (or_zero x)
-value_of board wire_length root f None none = inr (none, refl)
-value_of board wire_length root f (Some d) distance = inl distance
+value_of : (board : Board) (wire_length : ℕ → ℕ) (source f : ℕ) (x : Option ℕ)
+    → MatchOption x (HasNoWalk board source f) (IsDistance board wire_length source f)
+    → IsSourceValue board wire_length source f (or_zero x)
+value_of board wire_length source f None none = inr (none, refl)
+value_of board wire_length source f (Some d) distance = inl distance
 
--- distances from a root are a potential
-pub IsRootPotential-from_distances : (board : Board) (wire_length : ℕ
-    → ℕ) (root : ℕ) (distances : List (Option ℕ)) → length distances ≡ board.fpgas
-    → ((f : ℕ) → f < board.fpgas → MatchOption (get_or distances f None) (HasNoWalk board root f)
-    (IsDistance board wire_length root f))
-    → IsRootPotential board wire_length root (map or_zero distances)
-IsRootPotential-from_distances board wire_length root distances count exact = record {
+-- distances from a source are a potential
+pub IsSourcePotential-from_distances : (board : Board) (wire_length : ℕ
+    → ℕ) (source : ℕ) (distances : List (Option ℕ)) → length distances ≡ board.fpgas
+    → ((f : ℕ) → f < board.fpgas → MatchOption (get_or distances f None) (HasNoWalk board source f)
+    (IsDistance board wire_length source f))
+    → IsSourcePotential board wire_length source (map or_zero distances)
+IsSourcePotential-from_distances board wire_length source distances count exact = record {
   count = length-map distances or_zero ∙ count;
   values = λ f below.
-      subst (λ (v : ℕ). IsRootValue board wire_length root f v)
+      subst (λ (v : ℕ). IsSourceValue board wire_length source f v)
       (sym (get_or-map or_zero distances f None 0 (omega (arith, below, count))))
-      (value_of board wire_length root f (get_or distances f None) (exact f below));
+      (value_of board wire_length source f (get_or distances f None) (exact f below));
 }
 
 -- each distance that there is has a bound
@@ -67,13 +67,13 @@ module _ (graph : Graph) (reach : Reach) (is : IsGraph graph) (forest : IsHopFor
       let hops = hops_at (board_of graph) reach.root reach.distances has.distances f d at in
       omega (arith, chain_short (board_of graph) reach.root f d chain.0 hops chain.1, chain.2))
 
-  pub all_hops : (root : ℕ) → reach.root ≡ root → (board : Board) → graph ≡ graph_of board
-      → IsRootPotential board (λ _. 1) root (map or_zero reach.distances)
-  all_hops root at board same =
-      subst (λ (r : ℕ). IsRootPotential board (λ _. 1) r (map or_zero reach.distances)) at
+  pub all_hops : (source : ℕ) → reach.root ≡ source → (board : Board) → graph ≡ graph_of board
+      → IsSourcePotential board (λ _. 1) source (map or_zero reach.distances)
+  all_hops source at board same =
+      subst (λ (r : ℕ). IsSourcePotential board (λ _. 1) r (map or_zero reach.distances)) at
       (from_hops (forest.on_board board same))
     where
       from_hops : HasHops board reach
-          → IsRootPotential board (λ _. 1) reach.root (map or_zero reach.distances)
-      from_hops has = IsRootPotential-from_distances board (λ _. 1) reach.root reach.distances
+          → IsSourcePotential board (λ _. 1) reach.root (map or_zero reach.distances)
+      from_hops has = IsSourcePotential-from_distances board (λ _. 1) reach.root reach.distances
           has.distances.count has.distances.exact

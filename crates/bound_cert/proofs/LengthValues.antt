@@ -12,8 +12,8 @@ use Rattle.board_graph.specs.Graph.{Graph, IsGraph, graph_of, board_of}
 use Rattle.shortest_forest.specs.Reach.{Reach, HasNoWalk}
 use Rattle.shortest_forest.specs.LeastForest.{IsWayUp, IsLeastForest}
 use Rattle.shortest_forest.proofs.BreadthFirstLaws.{at_below}
-use Rattle.bound_cert.specs.Makers.{IsRootPotential}
-use Rattle.bound_cert.proofs.HopValues.{or_zero, IsRootPotential-from_distances, all_bounded}
+use Rattle.bound_cert.specs.Makers.{IsSourcePotential}
+use Rattle.bound_cert.proofs.HopValues.{or_zero, IsSourcePotential-from_distances, all_bounded}
 
 -- the wires up to the root are a walk there
 way_walk : (board : Board) (reach : Reach) (f : ℕ) (es : List ℕ) → IsWayUp board reach f es
@@ -37,12 +37,12 @@ walk_bounded board wire_length most short a (e ∷ es) b walk =
 
 module _ (graph : Graph) (wire_length : ℕ → ℕ) (reach : Reach)
     (forest : IsLeastForest graph wire_length reach) where
-  pub least_potential : (root : ℕ) → reach.root ≡ root → (board : Board) → graph ≡ graph_of board
-      → IsRootPotential board wire_length root (map or_zero reach.distances)
-  least_potential root at board same =
+  pub least_potential : (source : ℕ) → reach.root ≡ source → (board : Board) → graph ≡ graph_of board
+      → IsSourcePotential board wire_length source (map or_zero reach.distances)
+  least_potential source at board same =
       let has = forest.on_board board same in
-      subst (λ (r : ℕ). IsRootPotential board wire_length r (map or_zero reach.distances)) at
-      (IsRootPotential-from_distances board wire_length reach.root reach.distances has.distance_count
+      subst (λ (r : ℕ). IsSourcePotential board wire_length r (map or_zero reach.distances)) at
+      (IsSourcePotential-from_distances board wire_length reach.root reach.distances has.distance_count
       has.distances)
 
   -- no distance is more than the longest wire for each FPGA but one

@@ -16,7 +16,7 @@ pub mod OneBound
 pub mod CertWriting
 pub mod CertSize
 pub mod CertReadsBack
-pub mod RootLaws
+pub mod SourceLaws
 pub mod Distinct
 pub mod ChainLaws
 pub mod HopValues
@@ -28,7 +28,7 @@ pub mod Deepest
 pub mod OneWeight
 pub mod Scaled
 pub mod Validity
-pub mod RootSpreads
+pub mod SourceSpreads
 pub mod Parts
 pub mod HopCerts
 pub mod InPlace

@@ -8,11 +8,11 @@ use Rattle.tdm_problem.specs.Board.{Board, IsBoard}
 use Rattle.tdm_problem.specs.Limits.{most_fpgas}
 use Rattle.bound_cert.specs.Limits.{most_potential_value, most_potential_values}
 use Rattle.bound_cert.specs.Certificate.{IsPotential}
-use Rattle.bound_cert.specs.Makers.{AreRootPotentials, ChooseSources}
-use Rattle.bound_cert.proofs.RootLaws.{roots_below}
+use Rattle.bound_cert.specs.Makers.{AreSourcePotentials, ChooseSources}
+use Rattle.bound_cert.proofs.SourceLaws.{sources_below}
 
 module _ (board : Board) (wire_length : ℕ → ℕ) (potentials : List (List ℕ))
-    (are : AreRootPotentials board wire_length potentials) where
+    (are : AreSourcePotentials board wire_length potentials) where
   -- each potential has a value for each FPGA
   pub potentials_long : All (λ potential. length potential ≡ board.fpgas) potentials
   potentials_long p d below =
@@ -34,7 +34,7 @@ module _ (board : Board) (wire_length : ℕ → ℕ) (potentials : List (List �
       some = omega (
         arith,
         potentials_long p d below,
-        roots_below board is p 0 (omega (arith, below, are.count)),
+        sources_below board is p 0 (omega (arith, below, are.count)),
       );
       values = λ f e there. omega (arith, small p d below f e there);
     }

@@ -4,8 +4,8 @@ use Rattle.std.specs.Prelude.{All, slice_index}
 use Rattle.std.proofs.Math.Nat.{mul-le-mul_left}
 use Rattle.std.proofs.lemmas.List.{get_or_default}
 use Rattle.tdm_problem.specs.Board.{Board}
-use Rattle.bound_cert.specs.Sources.{roots_of}
-use Rattle.bound_cert.specs.Makers.{AreRootPotentials}
+use Rattle.bound_cert.specs.Sources.{sources_of}
+use Rattle.bound_cert.specs.Makers.{AreSourcePotentials}
 use Rattle.bound_cert.specs.Scaling.{IsScaled, AreScaled}
 use Rattle.bound_cert.proofs.Scaled.{potential_scaled}
 use Rattle.bound_cert.proofs.InPlace.{IsReplacedBelow}
@@ -39,12 +39,12 @@ AreScaled-small unit most old new scaled small p row there f d below =
     omega (arith, value, mul-le-mul_left unit (small p [] at f 0 long_old))
 
 -- potentials of hops become potentials at one length for all wires
-pub AreRootPotentials-scaled : (board : Board) (wire_length : ℕ → ℕ) (unit : ℕ) (old new : List (List ℕ))
-    → ((e : ℕ) → e < length board.wires → wire_length e ≡ unit) → AreRootPotentials board (λ _. 1) old
-    → AreScaled unit old new → AreRootPotentials board wire_length new
-AreRootPotentials-scaled board wire_length unit old new even hops scaled = record {
+pub AreSourcePotentials-scaled : (board : Board) (wire_length : ℕ → ℕ) (unit : ℕ) (old new : List (List ℕ))
+    → ((e : ℕ) → e < length board.wires → wire_length e ≡ unit) → AreSourcePotentials board (λ _. 1) old
+    → AreScaled unit old new → AreSourcePotentials board wire_length new
+AreSourcePotentials-scaled board wire_length unit old new even hops scaled = record {
   count = scaled.count ∙ hops.count;
   each = λ p there. (let each = scaled.each p (omega (arith, there, hops.count)) in
-      potential_scaled board wire_length unit even (slice_index (roots_of board) p) (get_or old p [])
+      potential_scaled board wire_length unit even (slice_index (sources_of board) p) (get_or old p [])
       (get_or new p []) (hops.each p there) each.count each.values);
 }

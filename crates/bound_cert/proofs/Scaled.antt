@@ -6,7 +6,7 @@ use Rattle.tdm_problem.specs.Board.{Board}
 use Rattle.tdm_problem.specs.Walk.{IsWalk, AnyWire}
 use Rattle.tdm_problem.specs.Distance.{length_of, IsDistance, IsHopCount}
 use Rattle.bound_cert.specs.Certificate.{value_at}
-use Rattle.bound_cert.specs.Makers.{IsRootValue, IsRootPotential}
+use Rattle.bound_cert.specs.Makers.{IsSourceValue, IsSourcePotential}
 
 -- a distance is one number
 pub distance_unique : (board : Board) (wire_length : ℕ → ℕ) (a b d far : ℕ)
@@ -36,20 +36,20 @@ module _ (board : Board) (wire_length : ℕ → ℕ) (unit : ℕ) (even : (e : �
     least = λ es walk. omega (arith, walk_length a es b walk, mul-le-mul_left unit (is.least es walk));
   }
 
-  value_scaled : (root f value : ℕ) → IsRootValue board (λ _. 1) root f value
-      → IsRootValue board wire_length root f (unit * value)
-  value_scaled root f value (inl hops) = inl (distance_scaled root f value hops)
-  value_scaled root f value (inr none) = inr (none.0, omega (arith, ap (λ (v : ℕ). unit * v) none.1))
+  value_scaled : (source f value : ℕ) → IsSourceValue board (λ _. 1) source f value
+      → IsSourceValue board wire_length source f (unit * value)
+  value_scaled source f value (inl hops) = inl (distance_scaled source f value hops)
+  value_scaled source f value (inr none) = inr (none.0, omega (arith, ap (λ (v : ℕ). unit * v) none.1))
 
   -- a potential of hops, with each value times the length, is a potential at that length
-  pub potential_scaled : (root : ℕ) (hops potential : List ℕ) → IsRootPotential board (λ _. 1) root hops
+  pub potential_scaled : (source : ℕ) (hops potential : List ℕ) → IsSourcePotential board (λ _. 1) source hops
       → length potential ≡ length hops
       → ((f : ℕ) → f < length hops → value_at potential f ≡ unit * value_at hops f)
-      → IsRootPotential board wire_length root potential
-  potential_scaled root hops potential is long values = record {
+      → IsSourcePotential board wire_length source potential
+  potential_scaled source hops potential is long values = record {
     count = long ∙ is.count;
     values = λ f below.
-        subst (λ (v : ℕ). IsRootValue board wire_length root f v)
+        subst (λ (v : ℕ). IsSourceValue board wire_length source f v)
         (sym (values f (omega (arith, below, is.count))))
-        (value_scaled root f (value_at hops f) (is.values f below));
+        (value_scaled source f (value_at hops f) (is.values f below));
   }

@@ -18,14 +18,14 @@ use Rattle.bound_cert.specs.Valid.{IsValid}
 use Rattle.bound_cert.specs.Bound.{bound_of, demand_of_kind, divisor_of_kind, least_even, net_spread, root_of_net, root_spreads}
 use Rattle.bound_cert.specs.Depths.{AreDepths, depth_of}
 use Rattle.bound_cert.specs.Floors.{holders_of, uniform_root, rooted_depths, uniform_length, share_floor, IsShareFloor}
-use Rattle.bound_cert.specs.Makers.{AreRootPotentials, ChooseSources, HasRootPotentials, IsUniformShareCert}
+use Rattle.bound_cert.specs.Makers.{AreSourcePotentials, ChooseSources, HasSourcePotentials, IsUniformShareCert}
 use Rattle.bound_cert.specs.Scaling.{AreScaled}
 use Rattle.bound_cert.proofs.HolderLaws.{net_weight-uniform}
 use Rattle.bound_cert.proofs.Parts.{potentials_long, potentials_within, choices_there, few_values}
 use Rattle.bound_cert.proofs.Rooted.{rooted}
-use Rattle.bound_cert.proofs.ScaleLaws.{AreScaled-small, AreRootPotentials-scaled}
-use Rattle.bound_cert.proofs.Validity.{IsValid-from_roots}
-use Rattle.bound_cert.proofs.RootSpreads.{net_spread_is}
+use Rattle.bound_cert.proofs.ScaleLaws.{AreScaled-small, AreSourcePotentials-scaled}
+use Rattle.bound_cert.proofs.Validity.{IsValid-from_sources}
+use Rattle.bound_cert.proofs.SourceSpreads.{net_spread_is}
 
 -- the sum of one number, so many times
 sum-same : {A : Type 0} (f : A → ℕ) (n : ℕ) (x : A) → sum_by f (replicate n x) ≡ n * f x
@@ -43,7 +43,7 @@ rooted_depths_are board holders depths are held =
     (λ n there. ap (λ (h : ℕ). root_of (uniform_weight * h) * depth_of depths n) (held n there))
 
 module _ (board : Board) (depths : List ℕ) (cert : Cert) (is : IsBoard board)
-    (are_depths : AreDepths board depths) (has : HasRootPotentials board cert) (weights : cert.weights
+    (are_depths : AreDepths board depths) (has : HasSourcePotentials board cert) (weights : cert.weights
     ≡ replicate (length board.groups) uniform_weight) (lengths : cert.lengths
     ≡ replicate (length board.wires) (uniform_length board depths)) where
   even : (e : ℕ) → e < length board.wires → length_of cert e ≡ uniform_length board depths
@@ -101,7 +101,7 @@ pub record AreShareParts (board : Board) (unit : ℕ) (depths weights lengths ch
   pub unit_short : unit ≤ 2 ^ 40
   pub weights_are : weights ≡ replicate (length board.groups) uniform_weight
   pub lengths_are : lengths ≡ replicate (length board.wires) unit
-  pub from_hops : AreRootPotentials board (λ _. 1) hops
+  pub from_hops : AreSourcePotentials board (λ _. 1) hops
   pub few : length hops ≤ most_fpgas
   pub small : All (All (λ v. v ≤ most_fpgas)) hops
   pub scaled : AreScaled unit hops potentials
@@ -121,8 +121,8 @@ module _ (board : Board) (unit : ℕ) (depths weights lengths choices : List ℕ
     potentials) where
   -- the length of each wire, by any function that is so on the wires
   are_scaled : (wire_length : ℕ → ℕ) → ((e : ℕ) → e < length board.wires → wire_length e ≡ unit)
-      → AreRootPotentials board wire_length potentials
-  are_scaled wire_length at_unit = AreRootPotentials-scaled board wire_length unit hops potentials at_unit
+      → AreSourcePotentials board wire_length potentials
+  are_scaled wire_length at_unit = AreSourcePotentials-scaled board wire_length unit hops potentials at_unit
       parts.from_hops parts.scaled
 
   pub share_lengths_within : All (λ l. l ≤ most_length) lengths
@@ -163,7 +163,7 @@ module _ (board : Board) (unit : ℕ) (depths weights lengths choices : List ℕ
       let at_unit : (e : ℕ) → e < length board.wires → length_of cert e ≡ unit =
       λ e there. ap (λ (ls : List ℕ). get_or ls e 0) parts.lengths_are
       ∙ get_or-replicate (length board.wires) e unit 0 there in
-      let has : HasRootPotentials board cert = record {
+      let has : HasSourcePotentials board cert = record {
         potentials = are_scaled (length_of cert) at_unit;
         choices = parts.chosen;
       } in
@@ -184,7 +184,7 @@ module _ (board : Board) (unit : ℕ) (depths weights lengths choices : List ℕ
           potentials = potentials_long board (length_of cert) potentials has.potentials;
           choices = parts.chosen.count;
         };
-        valid = IsValid-from_roots board cert parts.is_board has;
+        valid = IsValid-from_sources board cert parts.is_board has;
         floor = record {
           depths = depths;
           are_depths = parts.are_depths;

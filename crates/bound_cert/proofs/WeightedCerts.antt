@@ -20,15 +20,15 @@ use Rattle.bound_cert.specs.Limits.{most_potential_values}
 use Rattle.bound_cert.specs.Valid.{IsValid}
 use Rattle.bound_cert.specs.Bound.{bound_of, demand_of_kind, divisor_of_kind, least_even, net_spread, root_of_net, root_spreads}
 use Rattle.bound_cert.specs.Depths.{IsDepthOver}
-use Rattle.bound_cert.specs.Makers.{AreRootPotentials, ArePotentialsFrom, ChooseSources, HasRootPotentials}
-use Rattle.bound_cert.specs.Sources.{roots_of}
+use Rattle.bound_cert.specs.Makers.{AreSourcePotentials, ArePotentialsFrom, ChooseSources, HasSourcePotentials}
+use Rattle.bound_cert.specs.Sources.{sources_of}
 use Rattle.bound_cert.specs.Weighted.{IsWeightedShareCert, IsShareBound, ListsLengths, share_bound}
 use Rattle.bound_cert.proofs.Choices.{chosen}
 use Rattle.bound_cert.proofs.DepthLaws.{terminals_row, IsDepthOver-from_values}
 use Rattle.bound_cert.proofs.Parts.{potentials_long, few_values}
-use Rattle.bound_cert.proofs.RootLaws.{roots_few}
-use Rattle.bound_cert.proofs.RootSpreads.{net_spread_over}
-use Rattle.bound_cert.proofs.Validity.{IsValid-from_roots}
+use Rattle.bound_cert.proofs.SourceLaws.{sources_few}
+use Rattle.bound_cert.proofs.SourceSpreads.{net_spread_over}
+use Rattle.bound_cert.proofs.Validity.{IsValid-from_sources}
 
 -- a sum over a list, place by place
 sum_by-places : (f : ℕ → ℕ) (xs : List ℕ) → sum_by f xs ≡ sum_below (length xs) (λ i. f (get_or xs i 0))
@@ -73,7 +73,7 @@ module _ (board : Board) (wire_length other : ℕ → ℕ) (agree : (e : ℕ) �
     );
   }
 
-module _ (board : Board) (cert : Cert) (is : IsBoard board) (has : HasRootPotentials board cert)
+module _ (board : Board) (cert : Cert) (is : IsBoard board) (has : HasSourcePotentials board cert)
     (kind : cert.kind ≡ Share) (long : length cert.lengths ≡ length board.wires) where
   -- the bound, by the depths over any lengths that the certificate lists
   bound_is : (wire_length depth : ℕ → ℕ) → ListsLengths board cert.lengths wire_length
@@ -139,7 +139,7 @@ pub record IsWeightedMade (board : Board) (weights lengths : List ℕ) (cert : C
 
 pub IsWeightedMade-from_parts : (board : Board) (weights lengths choices : List ℕ)
     (potentials : List (List ℕ)) → IsBoard board → length weights ≡ length board.groups
-    → length lengths ≡ length board.wires → AreRootPotentials board (λ e. get_or lengths e 0) potentials
+    → length lengths ≡ length board.wires → AreSourcePotentials board (λ e. get_or lengths e 0) potentials
     → ChooseSources board choices → length potentials ≤ most_fpgas
     → IsWeightedMade board weights lengths (record {
       kind = Share;
@@ -159,7 +159,7 @@ IsWeightedMade-from_parts board weights lengths choices potentials is weighed lo
           potentials;
       choices = choices;
     } in
-    let has : HasRootPotentials board cert = record { potentials = are; choices = choose } in
+    let has : HasSourcePotentials board cert = record { potentials = are; choices = choose } in
     record {
       made = record { kind = refl; chosen = refl; weights_are = refl; lengths_are = refl; potentials = has };
       for_problem = record {
@@ -168,7 +168,7 @@ IsWeightedMade-from_parts board weights lengths choices potentials is weighed lo
         potentials = potentials_long board (λ e. get_or lengths e 0) potentials are;
         choices = choose.count;
       };
-      valid = IsValid-from_roots board cert is has;
+      valid = IsValid-from_sources board cert is has;
       bound = IsShareBound-shown board cert is has refl long;
       only_bound = λ wire_length lists bound share.
           share.bound_is ∙ sym (bound_is board cert is has refl long wire_length share.depth lists
@@ -176,18 +176,18 @@ IsWeightedMade-from_parts board weights lengths choices potentials is weighed lo
       few = few_values board (λ e. get_or lengths e 0) potentials are is few;
     }
 
--- potentials from the roots are those of the roots, and no more than a board has FPGAs
-pub root_potentials : (board : Board) (wire_length : ℕ → ℕ) (roots : List ℕ) (potentials : List (List ℕ))
-    → roots ≡ roots_of board → ArePotentialsFrom board wire_length roots potentials
-    → AreRootPotentials board wire_length potentials
-root_potentials board wire_length roots potentials same are =
+-- potentials from the sources are those of the sources, and no more than a board has FPGAs
+pub source_potentials : (board : Board) (wire_length : ℕ → ℕ) (sources : List ℕ) (potentials : List (List ℕ))
+    → sources ≡ sources_of board → ArePotentialsFrom board wire_length sources potentials
+    → AreSourcePotentials board wire_length potentials
+source_potentials board wire_length sources potentials same are =
     subst (λ (rs : List ℕ). ArePotentialsFrom board wire_length rs potentials) same are
 
 pub potentials_few : (board : Board) (wire_length : ℕ → ℕ) (potentials : List (List ℕ)) → IsBoard board
-    → AreRootPotentials board wire_length potentials → length potentials ≤ most_fpgas
+    → AreSourcePotentials board wire_length potentials → length potentials ≤ most_fpgas
 potentials_few board wire_length potentials is are = omega (
   arith,
   are.count,
-  roots_few board is,
+  sources_few board is,
   is.fpga_limit,
 )

@@ -8,50 +8,50 @@ use Rattle.bound_cert.specs.declared.certificate.CertKind.TheVariants.{Share, Ho
 use Rattle.bound_cert.specs.Limits.{uniform_weight}
 use Rattle.bound_cert.specs.Certificate.{Cert, weight_of, length_of, value_at}
 use Rattle.tdm_problem.specs.Legal.{source_of}
-use Rattle.bound_cert.specs.Sources.{roots_of}
+use Rattle.bound_cert.specs.Sources.{sources_of}
 use Rattle.bound_cert.specs.Depths.{AreDepths, group_depth}
 use Rattle.bound_cert.specs.Floors.{uniform_length}
 
--- the value at FPGA f is its distance from the root, or 0 where no wires lead there
-abbrev pub IsRootValue : Board → (ℕ → ℕ) → (root f value : ℕ) → Type 0
-IsRootValue board wire_length root f value = IsDistance board wire_length root f value
-    ⊎ (HasNoWalk board root f × (value ≡ 0))
+-- the value at FPGA f is its distance from the source, or 0 where no wires lead there
+abbrev pub IsSourceValue : Board → (ℕ → ℕ) → (source f value : ℕ) → Type 0
+IsSourceValue board wire_length source f value = IsDistance board wire_length source f value
+    ⊎ (HasNoWalk board source f × (value ≡ 0))
 
--- each FPGA's value is its distance from the root, or 0 where no wires lead there
-pub record IsRootPotential (board : Board) (wire_length : ℕ
-    → ℕ) (root : ℕ) (potential : List ℕ) : Type 0 where
+-- each FPGA's value is its distance from the source, or 0 where no wires lead there
+pub record IsSourcePotential (board : Board) (wire_length : ℕ
+    → ℕ) (source : ℕ) (potential : List ℕ) : Type 0 where
   pub count : length potential ≡ board.fpgas
-  pub values : (f : ℕ) → f < board.fpgas → IsRootValue board wire_length root f (value_at potential f)
+  pub values : (f : ℕ) → f < board.fpgas → IsSourceValue board wire_length source f (value_at potential f)
 
 -- there is a potential for each of these FPGAs, in order
-pub record ArePotentialsFrom (board : Board) (wire_length : ℕ → ℕ) (roots : List ℕ)
+pub record ArePotentialsFrom (board : Board) (wire_length : ℕ → ℕ) (sources : List ℕ)
     (potentials : List (List ℕ)) : Type 0 where
-  pub count : length potentials ≡ length roots
-  pub each : (p : ℕ) → p < length roots
-      → IsRootPotential board wire_length (slice_index roots p) (slice_index_or potentials p [])
+  pub count : length potentials ≡ length sources
+  pub each : (p : ℕ) → p < length sources
+      → IsSourcePotential board wire_length (slice_index sources p) (slice_index_or potentials p [])
 
--- there is a potential for each root, in order
-abbrev pub AreRootPotentials : Board → (ℕ → ℕ) → List (List ℕ) → Type 0
-AreRootPotentials board wire_length potentials =
-    ArePotentialsFrom board wire_length (roots_of board) potentials
+-- there is a potential for each source, in order
+abbrev pub AreSourcePotentials : Board → (ℕ → ℕ) → List (List ℕ) → Type 0
+AreSourcePotentials board wire_length potentials =
+    ArePotentialsFrom board wire_length (sources_of board) potentials
 
--- the number, less 1, is that of the source among the roots
-pub record IsChoiceAmong (roots : List ℕ) (source choice : ℕ) : Type 0 where
-  pub root : ℕ
-  pub there : root < length roots
-  pub choice_is : choice ≡ root + 1
-  pub source_is : slice_index roots root ≡ source
+-- the number, less 1, is that of the source among the sources
+pub record IsChoiceAmong (sources : List ℕ) (source choice : ℕ) : Type 0 where
+  pub place : ℕ
+  pub there : place < length sources
+  pub choice_is : choice ≡ place + 1
+  pub source_is : slice_index sources place ≡ source
 
 -- each net chooses the potential of its source
 pub record ChooseSources (board : Board) (choices : List ℕ) : Type 0 where
   pub count : length choices ≡ length board.nets
   pub each : (n : ℕ) → n < length board.nets
-      → IsChoiceAmong (roots_of board) (source_of board n) (slice_index choices n)
+      → IsChoiceAmong (sources_of board) (source_of board n) (slice_index choices n)
 
--- the potentials are those of the roots, at the certificate's lengths, and each net chooses that of its
+-- the potentials are those of the sources, at the certificate's lengths, and each net chooses that of its
 -- source
-pub record HasRootPotentials (board : Board) (cert : Cert) : Type 0 where
-  pub potentials : AreRootPotentials board (length_of cert) cert.potentials
+pub record HasSourcePotentials (board : Board) (cert : Cert) : Type 0 where
+  pub potentials : AreSourcePotentials board (length_of cert) cert.potentials
   pub choices : ChooseSources board cert.choices
 
 -- the depths of group g's nets are together the most, and those of each group before it are less
@@ -77,7 +77,7 @@ pub record IsHopGroupCert (board : Board) (cert : Cert) : Type 0 where
   pub chosen : cert.grows ≡ false
   pub weights : (g : ℕ) → g < length board.groups → IsHopWeight board depths g (weight_of cert g)
   pub lengths : (e : ℕ) → e < length board.wires → length_of cert e ≡ 1
-  pub potentials : HasRootPotentials board cert
+  pub potentials : HasSourcePotentials board cert
 
 -- the certificate by shares with one weight for all groups and one length for all wires
 pub record IsUniformShareCert (board : Board) (cert : Cert) : Type 0 where
@@ -87,7 +87,7 @@ pub record IsUniformShareCert (board : Board) (cert : Cert) : Type 0 where
   pub chosen : cert.grows ≡ false
   pub weights : (g : ℕ) → g < length board.groups → weight_of cert g ≡ uniform_weight
   pub lengths : (e : ℕ) → e < length board.wires → length_of cert e ≡ uniform_length board depths
-  pub potentials : HasRootPotentials board cert
+  pub potentials : HasSourcePotentials board cert
 
 -- the certificate by growth of this kind, with these weights of groups and lengths of wires
 abbrev pub growing_cert : Board → CertKind → (weights lengths : List ℕ) → Cert

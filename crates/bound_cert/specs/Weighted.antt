@@ -9,7 +9,7 @@ use Rattle.bound_cert.specs.declared.certificate.CertKind.TheVariants.{Share}
 use Rattle.bound_cert.specs.Certificate.{Cert}
 use Rattle.bound_cert.specs.Bound.{least_even}
 use Rattle.bound_cert.specs.Depths.{IsDepthOver}
-use Rattle.bound_cert.specs.Makers.{HasRootPotentials}
+use Rattle.bound_cert.specs.Makers.{HasSourcePotentials}
 
 -- the certificate by shares with these weights and these lengths
 pub record IsWeightedShareCert (board : Board) (weights lengths : List ℕ) (cert : Cert) : Type 0 where
@@ -17,7 +17,7 @@ pub record IsWeightedShareCert (board : Board) (weights lengths : List ℕ) (cer
   pub chosen : cert.grows ≡ false
   pub weights_are : cert.weights ≡ weights
   pub lengths_are : cert.lengths ≡ lengths
-  pub potentials : HasRootPotentials board cert
+  pub potentials : HasSourcePotentials board cert
 
 -- the list has the length of each wire of the board
 abbrev pub ListsLengths : Board → (lengths : List ℕ) → (wire_length : ℕ → ℕ) → Type 0

@@ -10,7 +10,7 @@ ghost use Rattle.bound_cert.specs.declared.refusal.CertTextKind.TheVariants.{Bad
 ghost use Rattle.bound_cert.specs.Growth.{IsGrowth};
 ghost use Rattle.bound_cert.specs.Floors.{hop_floor, part_of, share_floor, uniform_length};
 ghost use Rattle.bound_cert.specs.Makers.{growing_cert, group_growing_cert};
-ghost use Rattle.bound_cert.specs.Sources.{roots_of};
+ghost use Rattle.bound_cert.specs.Sources.{sources_of};
 ghost use Rattle.bound_cert.specs.Certificate.{IsCert, IsCertFor};
 ghost use Rattle.bound_cert.specs.Samples.{ring_of_five, star_cert, wire_cert};
 ghost use Rattle.bound_cert.specs.Valid.{IsSteep, IsValid};
@@ -138,7 +138,7 @@ fn the_limits_of_the_code()
 
 /// The sources of nets, each once, and the floor by hops of the star, whose net is two hops deep.
 fn sources_and_floors()
-    ensures sources { roots_of (record shared { nets = (1 ∷ 0 ∷ []) ∷ (0 ∷ []) ∷ (1 ∷ []) ∷ [] })
+    ensures sources { sources_of (record shared { nets = (1 ∷ 0 ∷ []) ∷ (0 ∷ []) ∷ (1 ∷ []) ∷ [] })
         ≡ 1 ∷ 0 ∷ [] }
     ensures floor { hop_floor star (2 ∷ []) ≡ 4 }
     ensures no_group { hop_floor (record star { groups = [] }) (2 ∷ []) ≡ 0 }

@@ -8,17 +8,17 @@ ghost use Rattle.board_graph.specs.Graph.{IsGraph, graph_of};
 ghost use Rattle.bound_cert.specs.Certificate.{value_at};
 ghost use Rattle.tdm_problem.specs.Legal.{AllConnectable};
 ghost use Rattle.bound_cert.specs.Depths.{AreDepths};
-ghost use Rattle.bound_cert.specs.Makers.{IsRootPotential, AreRootPotentials, ArePotentialsFrom, ChooseSources};
+ghost use Rattle.bound_cert.specs.Makers.{IsSourcePotential, AreSourcePotentials, ArePotentialsFrom, ChooseSources};
 
 use crate::potential::Potential;
-use crate::roots::Roots;
+use crate::sources::Sources;
 use board_graph::BoardGraph;
 use shortest_forest::{Forest, hops};
 use std::alloc::{AllocError, Global};
 use tdm_problem::Problem;
 
-/// What the certificates of a problem begin with: for each root the potential of its hops, which of them each
-/// net chooses, and the depth of each net.
+/// What the certificates of a problem begin with: for each source the potential of its hops, which of them
+/// each net chooses, and the depth of each net.
 #[derive(Drop)]
 pub(crate) struct HopReach {
     pub(crate) potentials: Vec<Potential>,
@@ -36,7 +36,7 @@ impl HopReach {
         requires graph { graph.now ≡ graph_of problem.now }
         requires connectable { AllConnectable problem.now }
         ensures potentials { IfOk result (λ reach.
-            AreRootPotentials problem.now (λ _. 1) reach.potentials.items) }
+            AreSourcePotentials problem.now (λ _. 1) reach.potentials.items) }
         ensures choices { IfOk result (λ reach. ChooseSources problem.now reach.choices.items) }
         ensures depths { IfOk result (λ reach. AreDepths problem.now reach.depths.items) }
         ensures few { IfOk result (λ reach. length reach.potentials.items ≤ most_fpgas) }
@@ -45,12 +45,12 @@ impl HopReach {
         ensures short_depths { IfOk result (λ reach.
             All (λ h. h ≤ length problem.now.wires) reach.depths.items) }
     {
-        let roots = Roots::of(alloc, problem)?;
-        let potentials = hop_potentials(alloc, graph, roots.fpgas.as_slice())?;
-        let depths = depths_of(alloc, problem, &potentials, &roots.choices)?;
+        let sources = Sources::of(alloc, problem)?;
+        let potentials = hop_potentials(alloc, graph, sources.fpgas.as_slice())?;
+        let depths = depths_of(alloc, problem, &potentials, &sources.choices)?;
         Ok(HopReach {
             potentials,
-            choices: roots.choices,
+            choices: sources.choices,
             depths,
         })
     }
@@ -60,30 +60,30 @@ impl HopReach {
 fn hop_potentials(
     alloc: Global,
     graph: &BoardGraph,
-    roots: &[u32],
+    sources: &[u32],
 ) -> Result<Vec<Potential>, AllocError>
-    requires there { All (λ root. root < graph.now.fpgas) roots.now }
+    requires there { All (λ source. source < graph.now.fpgas) sources.now }
     ensures hops { IfOk result (λ potentials. (board : Board) → graph.now ≡ graph_of board
-        → ArePotentialsFrom board (λ _. 1) roots.now potentials.items) }
+        → ArePotentialsFrom board (λ _. 1) sources.now potentials.items) }
     ensures small { IfOk result (λ potentials. All (All (λ v. v ≤ most_fpgas)) potentials.items) }
     ensures short { IfOk result (λ potentials. All (All (λ v. v ≤ length graph.now.wires)) potentials.items) }
 {
-    let mut potentials = Vec::with_capacity(alloc, roots.len())?;
-    for root in roots {
-        potentials.push(hop_potential(alloc, graph, *root)?)?;
+    let mut potentials = Vec::with_capacity(alloc, sources.len())?;
+    for source in sources {
+        potentials.push(hop_potential(alloc, graph, *source)?)?;
     }
     Ok(potentials)
 }
 
-/// The potential of the hops from FPGA `root`.
-fn hop_potential(alloc: Global, graph: &BoardGraph, root: u32) -> Result<Potential, AllocError>
-    requires { root < graph.now.fpgas }
+/// The potential of the hops from FPGA `source`.
+fn hop_potential(alloc: Global, graph: &BoardGraph, source: u32) -> Result<Potential, AllocError>
+    requires { source < graph.now.fpgas }
     ensures hops { IfOk result (λ potential. (board : Board) → graph.now ≡ graph_of board
-        → IsRootPotential board (λ _. 1) root potential) }
+        → IsSourcePotential board (λ _. 1) source potential) }
     ensures small { IfOk result (All (λ v. v ≤ most_fpgas)) }
     ensures short { IfOk result (All (λ v. v ≤ length graph.now.wires)) }
 {
-    let forest = hops(alloc, graph, root)?;
+    let forest = hops(alloc, graph, source)?;
     let values = distances_of(alloc, graph, &forest)?;
     Ok(Potential::new(values))
 }
@@ -115,7 +115,7 @@ fn depths_of(
     choices: &[u32],
 ) -> Result<Vec<u64>, AllocError>
     requires connectable { AllConnectable problem.now }
-    requires potentials { AreRootPotentials problem.now (λ _. 1) potentials.now }
+    requires potentials { AreSourcePotentials problem.now (λ _. 1) potentials.now }
     requires choices { ChooseSources problem.now choices.now }
     ensures depths { IfOk result (λ depths. AreDepths problem.now depths.items) }
     ensures within { IfOk result (λ depths. (most : ℕ) → All (All (λ v. v ≤ most)) potentials.now

@@ -21,10 +21,10 @@ mod read;
 mod reader;
 mod refusal;
 mod repeated;
-mod roots;
 mod said;
 mod scaling;
 mod share_maker;
+mod sources;
 mod state;
 #[cfg(test)]
 mod text_tests;

@@ -3,17 +3,17 @@ ghost use Rattle.std.specs.Prelude.{◌≡◌, ◌<◌, ◌≤◌, ◌^◌, ℕ,
 ghost use Rattle.tdm_problem.specs.Board.{Board};
 ghost use Rattle.tdm_problem.specs.Legal.{AllConnectable};
 ghost use Rattle.board_graph.specs.Graph.{graph_of};
-ghost use Rattle.bound_cert.specs.Limits.{most_potential_value, most_potential_values};
+ghost use Rattle.bound_cert.specs.Limits.{most_length, most_potential_value, most_potential_values, most_weight};
 ghost use Rattle.bound_cert.specs.Certificate.{IsCert, IsCertFor};
 ghost use Rattle.bound_cert.specs.Valid.{IsValid};
 ghost use Rattle.bound_cert.specs.Bound.{bound_of};
-ghost use Rattle.bound_cert.specs.Makers.{IsRootPotential, ArePotentialsFrom};
+ghost use Rattle.bound_cert.specs.Makers.{IsSourcePotential, ArePotentialsFrom};
 ghost use Rattle.bound_cert.specs.Weighted.{IsWeightedShareCert, IsShareBound, ListsLengths};
 
 use crate::certificate::{CertKind, Certificate};
 use crate::hops::distances_of;
 use crate::potential::Potential;
-use crate::roots::Roots;
+use crate::sources::Sources;
 use board_graph::BoardGraph;
 use shortest_forest::{Lengths, forest};
 use std::alloc::{AllocError, Global};
@@ -56,9 +56,9 @@ pub fn weighted_share_cert(
     requires graph { graph.now ≡ graph_of problem.now }
     requires connectable { AllConnectable problem.now }
     requires weights_count { length weights.now ≡ length problem.now.groups }
-    requires weights_small { All (λ w. w ≤ 2 ^ 40) weights.now }
+    requires weights_small { All (λ w. w ≤ most_weight) weights.now }
     requires lengths_count { length lengths.now ≡ length problem.now.wires }
-    requires lengths_small { All (λ l. l ≤ 2 ^ 48) lengths.now }
+    requires lengths_small { All (λ l. l ≤ most_length) lengths.now }
     ensures made { IfOk result (IsWeightedShareCert problem.now weights.now lengths.now) }
     ensures for_problem { IfOk result (IsCertFor problem.now) }
     ensures within { IfOk result IsCert }
@@ -71,15 +71,15 @@ pub fn weighted_share_cert(
         → bound ≡ bound_of problem.now cert) }
     ensures few { IfOk result (λ cert. sum_by length cert.potentials ≤ most_potential_values) }
 {
-    let roots = Roots::of(alloc, problem)?;
-    let potentials = length_potentials(alloc, graph, roots.fpgas.as_slice(), lengths)?;
+    let sources = Sources::of(alloc, problem)?;
+    let potentials = length_potentials(alloc, graph, sources.fpgas.as_slice(), lengths)?;
     Ok(Certificate::from_parts(
         CertKind::Share,
         false,
         weights.to_vec(alloc)?,
         lengths.to_vec(alloc)?,
         potentials,
-        roots.choices,
+        sources.choices,
     ))
 }
 
@@ -87,39 +87,39 @@ pub fn weighted_share_cert(
 fn length_potentials(
     alloc: Global,
     graph: &BoardGraph,
-    roots: &[u32],
+    sources: &[u32],
     lengths: &[u64],
 ) -> Result<Vec<Potential>, AllocError>
-    requires there { All (λ root. root < graph.now.fpgas) roots.now }
+    requires there { All (λ source. source < graph.now.fpgas) sources.now }
     requires count { length lengths.now ≡ length graph.now.wires }
-    requires small { All (λ l. l ≤ 2 ^ 48) lengths.now }
+    requires small { All (λ l. l ≤ most_length) lengths.now }
     ensures least { IfOk result (λ potentials. (board : Board) → graph.now ≡ graph_of board
-        → ArePotentialsFrom board (λ e. slice_index_or lengths.now e 0) roots.now potentials.items) }
+        → ArePotentialsFrom board (λ e. slice_index_or lengths.now e 0) sources.now potentials.items) }
     ensures within { IfOk result (λ potentials.
         All (All (λ v. v ≤ most_potential_value)) potentials.items) }
 {
-    let mut potentials = Vec::with_capacity(alloc, roots.len())?;
-    for root in roots {
-        potentials.push(length_potential(alloc, graph, *root, lengths)?)?;
+    let mut potentials = Vec::with_capacity(alloc, sources.len())?;
+    for source in sources {
+        potentials.push(length_potential(alloc, graph, *source, lengths)?)?;
     }
     Ok(potentials)
 }
 
-/// The potential of the least lengths from FPGA `root`.
+/// The potential of the least lengths from FPGA `source`.
 fn length_potential(
     alloc: Global,
     graph: &BoardGraph,
-    root: u32,
+    source: u32,
     lengths: &[u64],
 ) -> Result<Potential, AllocError>
-    requires there { root < graph.now.fpgas }
+    requires there { source < graph.now.fpgas }
     requires count { length lengths.now ≡ length graph.now.wires }
-    requires small { All (λ l. l ≤ 2 ^ 48) lengths.now }
+    requires small { All (λ l. l ≤ most_length) lengths.now }
     ensures least { IfOk result (λ potential. (board : Board) → graph.now ≡ graph_of board
-        → IsRootPotential board (λ e. slice_index_or lengths.now e 0) root potential) }
+        → IsSourcePotential board (λ e. slice_index_or lengths.now e 0) source potential) }
     ensures within { IfOk result (All (λ v. v ≤ most_potential_value)) }
 {
-    let forest = forest(alloc, graph, root, &WireLengths { lengths })?;
+    let forest = forest(alloc, graph, source, &WireLengths { lengths })?;
     let values = distances_of(alloc, graph, &forest)?;
     Ok(Potential::new(values))
 }

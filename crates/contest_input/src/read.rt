@@ -1,7 +1,7 @@
 //! A whole board text.
-ghost use Rattle.std.specs.Prelude.{◌≡◌, ◌+◌, ◌≤◌, ◌^◌, length, IfOk, IfErr, Ok};
+ghost use Rattle.std.specs.Prelude.{◌≡◌, ◌+◌, ◌≤◌, length, IfOk, IfErr, Ok};
 ghost use Rattle.tdm_lines.specs.Refusals.{IsFaultOf};
-ghost use Rattle.contest_input.specs.BoardText.{board_of};
+ghost use Rattle.contest_input.specs.BoardText.{board_of, most_bytes};
 
 use crate::fault::BoardFault;
 use crate::reader::BoardReader;
@@ -19,7 +19,7 @@ use tdm_problem::Problem;
 /// Refused where the text is none of this, for the first line at fault and the first fault of that line.
 /// NoMemory where memory is wanting.
 pub fn read_board(alloc: Global, bytes: &[u8]) -> Result<Problem, BoardFault>
-    requires { length bytes.now ≤ 2 ^ 28 + 1 }
+    requires { length bytes.now ≤ most_bytes + 1 }
     ensures board { IfOk result (λ problem. board_of bytes.now ≡ Ok problem) }
     ensures refused { IfErr result (λ fault. IsFaultOf fault (board_of bytes.now)) }
 {

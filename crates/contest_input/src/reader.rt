@@ -1,7 +1,7 @@
 //! A board text that comes in pieces.
-ghost use Rattle.std.specs.Prelude.{◌≡◌, ◌+◌, ◌≤◌, ◌^◌, ◌++◌, ℕ, List, [], length, IfOk, IfErr, OnOk, OnErr, IsTrue, Ok, Err, alloc_error, true, false};
+ghost use Rattle.std.specs.Prelude.{◌≡◌, ◌+◌, ◌≤◌, ◌++◌, ℕ, List, [], length, IfOk, IfErr, OnOk, OnErr, IsTrue, Ok, Err, alloc_error, true, false};
 ghost use Rattle.tdm_lines.specs.Refusals.{IsFaultOf};
-ghost use Rattle.contest_input.specs.BoardText.{board_of};
+ghost use Rattle.contest_input.specs.BoardText.{board_of, most_bytes};
 ghost use Rattle.contest_input.specs.Reader.{IsAt};
 ghost use Rattle.tdm_lines.specs.declared.refusal.ReadingFault.TheVariants.{NoMemory};
 
@@ -54,7 +54,7 @@ impl BoardReader {
     /// Takes the next piece of a text, of which at most one byte more than the longest is fed. After a want
     /// of memory the reader is spent, and answers so from then on.
     pub fn feed(&mut self, piece: &[u8]) -> Result<(), AllocError>
-        requires { self.old.fed + length piece.now ≤ 2 ^ 28 + 1 }
+        requires { self.old.fed + length piece.now ≤ most_bytes + 1 }
         ensures at { OnOk result ((text : List ℕ) → IsAt self.old text → IsAt self.new (text ++ piece.now)) }
         ensures fed { OnOk result (self.new.fed ≡ self.old.fed + length piece.now) }
         ensures spent { OnErr result (IsTrue self.new.spent) }

@@ -1,7 +1,7 @@
 //! Reading a whole solution text.
-ghost use Rattle.std.specs.Prelude.{◌≡◌, ◌+◌, ◌≤◌, ◌^◌, length, IfOk, IfErr, Ok};
+ghost use Rattle.std.specs.Prelude.{◌≡◌, ◌+◌, ◌≤◌, length, IfOk, IfErr, Ok};
 ghost use Rattle.tdm_problem.specs.Routing.{IsFor};
-ghost use Rattle.solution_text.specs.Reading.{solution_of};
+ghost use Rattle.solution_text.specs.Reading.{solution_of, most_bytes};
 ghost use Rattle.tdm_lines.specs.Refusals.{IsFaultOf};
 
 use crate::reader::SolutionReader;
@@ -25,7 +25,7 @@ pub fn read_solution(
     bytes: &[u8],
     problem: &Problem,
 ) -> Result<Solution, SolutionFault>
-    requires { length bytes.now ≤ 2 ^ 30 + 1 }
+    requires { length bytes.now ≤ most_bytes + 1 }
     ensures ok { IfOk result (λ solution. solution_of problem.now bytes.now ≡ Ok solution) }
     ensures for_problem { IfOk result (IsFor problem.now) }
     // The fault is the refusal that the text has, or want of memory.

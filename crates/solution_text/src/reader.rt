@@ -1,8 +1,8 @@
 //! A solution text that comes in pieces.
-ghost use Rattle.std.specs.Prelude.{◌≡◌, ◌+◌, ◌≤◌, ◌^◌, ◌++◌, ℕ, List, [], length, IfOk, IfErr, OnOk, OnErr, IsTrue, Ok, Err, alloc_error, true};
+ghost use Rattle.std.specs.Prelude.{◌≡◌, ◌+◌, ◌≤◌, ◌++◌, ℕ, List, [], length, IfOk, IfErr, OnOk, OnErr, IsTrue, Ok, Err, alloc_error, true};
 ghost use Rattle.tdm_problem.specs.Board.{Board};
 ghost use Rattle.tdm_problem.specs.Routing.{IsFor};
-ghost use Rattle.solution_text.specs.Reading.{solution_of};
+ghost use Rattle.solution_text.specs.Reading.{solution_of, most_bytes};
 ghost use Rattle.tdm_lines.specs.Refusals.{IsFaultOf};
 ghost use Rattle.solution_text.specs.Reader.{IsAt};
 ghost use Rattle.tdm_lines.specs.declared.refusal.ReadingFault.TheVariants.{NoMemory};
@@ -56,7 +56,7 @@ impl SolutionReader {
     /// Takes the next piece of a text, of which at most one byte more than the longest is fed. After a want
     /// of memory the reader is spent, and answers so from then on.
     pub fn feed(&mut self, piece: &[u8]) -> Result<(), AllocError>
-        requires { self.old.fed + length piece.now ≤ 2 ^ 30 + 1 }
+        requires { self.old.fed + length piece.now ≤ most_bytes + 1 }
         ensures at { OnOk result ((board : Board) (text : List ℕ) → IsAt self.old board text
             → IsAt self.new board (text ++ piece.now)) }
         ensures fed { OnOk result (self.new.fed ≡ self.old.fed + length piece.now) }

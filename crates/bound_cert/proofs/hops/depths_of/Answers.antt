@@ -6,8 +6,8 @@ use Rattle.tdm_problem.specs.Value.{largest}
 use Rattle.bound_cert.specs.Certificate.{value_at}
 use Rattle.bound_cert.specs.Depths.{IsDepth}
 use Rattle.tdm_problem.specs.Legal.{source_of}
-use Rattle.bound_cert.specs.Makers.{IsRootPotential}
-use Rattle.bound_cert.proofs.RootLaws.{each_pushed}
+use Rattle.bound_cert.specs.Makers.{IsSourcePotential}
+use Rattle.bound_cert.proofs.SourceLaws.{each_pushed}
 use Rattle.bound_cert.proofs.Choices.{chosen, chosen_read, row_chosen}
 use Rattle.bound_cert.proofs.DepthLaws.{IsDepthOf, depth_read}
 use Rattle.bound_cert.proofs.hops.depths_of.Goals as goal
@@ -21,7 +21,7 @@ loop-n-preserved c =
     let there : c.loop-n.n < length c.args.problem.now.nets = omega arith in
     let chose = chosen c.args.problem.now (λ _. 1) c.args.potentials.now c.args.choices.now c.loop-n.n
     c.requires.potentials c.requires.choices there in
-    let hops : IsRootPotential c.args.problem.now (λ _. 1) (source_of c.args.problem.now c.loop-n.n) row =
+    let hops : IsSourcePotential c.args.problem.now (λ _. 1) (source_of c.args.problem.now c.loop-n.n) row =
     chosen_read c.args.problem.now (λ _. 1) c.args.potentials.now c.loop-n.n choice row chose
     c.index-potentials-choices.is in
     let values : c.values.result.now ≡ row = c.values.ensures in

@@ -3,14 +3,14 @@ use Rattle.std.specs.Prelude.{All, slice_index}
 use Rattle.tdm_problem.specs.Board.{Board}
 use Rattle.tdm_problem.specs.Limits.{most_fpgas}
 use Rattle.board_graph.specs.Graph.{graph_of}
-use Rattle.bound_cert.specs.Makers.{IsRootPotential}
+use Rattle.bound_cert.specs.Makers.{IsSourcePotential}
 use Rattle.bound_cert.proofs.hops.hop_potentials.Given as goal
 
-abbrev pub invariant-loop-root : goal.invariant-loop-root
-invariant-loop-root l = record {
-  count : length l.potentials.items ≡ l.root-index;
-  each : (board : Board) → l.graph ≡ graph_of board → (p : ℕ) → p < l.root-index
-      → IsRootPotential board (λ _. 1) (slice_index l.roots p) (get_or l.potentials.items p []);
+abbrev pub invariant-loop-source : goal.invariant-loop-source
+invariant-loop-source l = record {
+  count : length l.potentials.items ≡ l.source-index;
+  each : (board : Board) → l.graph ≡ graph_of board → (p : ℕ) → p < l.source-index
+      → IsSourcePotential board (λ _. 1) (slice_index l.sources p) (get_or l.potentials.items p []);
   small : All (All (λ v. v ≤ most_fpgas)) l.potentials.items;
   short : All (All (λ v. v ≤ length l.graph.wires)) l.potentials.items;
 }

@@ -4,56 +4,56 @@ use Rattle.board_graph.specs.Graph.{Graph}
 use Rattle.bound_cert.specs.declared.certificate.CertKind.TheVariants.{Share}
 use Rattle.bound_cert.specs.Certificate.{Cert}
 use Rattle.bound_cert.specs.Limits.{most_potential_value}
-use Rattle.bound_cert.specs.Makers.{AreRootPotentials}
-use Rattle.bound_cert.specs.Sources.{roots_of}
+use Rattle.bound_cert.specs.Makers.{AreSourcePotentials}
+use Rattle.bound_cert.specs.Sources.{sources_of}
 use Rattle.bound_cert.proofs.Parts.{choices_there, potentials_within}
-use Rattle.bound_cert.proofs.RootLaws.{roots_below}
-use Rattle.bound_cert.proofs.WeightedCerts.{IsWeightedMade, IsWeightedMade-from_parts, potentials_few, root_potentials}
+use Rattle.bound_cert.proofs.SourceLaws.{sources_below}
+use Rattle.bound_cert.proofs.WeightedCerts.{IsWeightedMade, IsWeightedMade-from_parts, potentials_few, source_potentials}
 use Rattle.bound_cert.proofs.weighted_maker.weighted_share_cert.Goals as goal
 
 pub length_potentials-requires-clause-there : goal.length_potentials-requires-clause-there
 length_potentials-requires-clause-there c =
     let fpgas : c.args.graph.now.fpgas ≡ c.args.problem.now.fpgas =
     ap (λ (g : Graph). g.fpgas) c.requires.graph in
-    subst (λ (rs : List ℕ). All (λ root. root < c.args.graph.now.fpgas) rs)
-    (sym (c.as_slice.ensures.keys ∙ c.in_ok-roots.ensures.fpgas))
-    (subst (λ (n : ℕ). All (λ root. root < n) (roots_of c.args.problem.now)) (sym fpgas)
-    (roots_below c.args.problem.now c.in_ok-roots.ensures.board))
+    subst (λ (rs : List ℕ). All (λ source. source < c.args.graph.now.fpgas) rs)
+    (sym (c.as_slice.ensures.keys ∙ c.in_ok-sources.ensures.fpgas))
+    (subst (λ (n : ℕ). All (λ source. source < n) (sources_of c.args.problem.now)) (sym fpgas)
+    (sources_below c.args.problem.now c.in_ok-sources.ensures.board))
 
 abbrev wire_length : List ℕ → ℕ → ℕ
 wire_length lengths e = get_or lengths e 0
 
 are : (c : goal.In_ok-to_vec-2)
-    → AreRootPotentials c.args.problem.now (wire_length c.args.lengths.now)
+    → AreSourcePotentials c.args.problem.now (wire_length c.args.lengths.now)
     c.in_ok-potentials.potentials.items
 are c =
-    root_potentials c.args.problem.now (wire_length c.args.lengths.now) c.as_slice.result.now
+    source_potentials c.args.problem.now (wire_length c.args.lengths.now) c.as_slice.result.now
     c.in_ok-potentials.potentials.items
-    (c.as_slice.ensures.keys ∙ c.in_ok-roots.ensures.fpgas)
+    (c.as_slice.ensures.keys ∙ c.in_ok-sources.ensures.fpgas)
     (c.in_ok-potentials.ensures.least c.args.problem.now c.requires.graph)
 
 pub from_parts-requires-clause-few_potentials : goal.from_parts-requires-clause-few_potentials
 from_parts-requires-clause-few_potentials c =
     potentials_few c.args.problem.now (wire_length c.args.lengths.now) c.in_ok-potentials.potentials.items
-    c.in_ok-roots.ensures.board (are c)
+    c.in_ok-sources.ensures.board (are c)
 
 pub from_parts-requires-clause-potentials_within : goal.from_parts-requires-clause-potentials_within
 from_parts-requires-clause-potentials_within c =
     potentials_within c.args.problem.now (wire_length c.args.lengths.now) c.in_ok-potentials.potentials.items
-    (are c) c.in_ok-roots.ensures.board most_potential_value
+    (are c) c.in_ok-sources.ensures.board most_potential_value
     (omega arith) c.in_ok-potentials.ensures.within
 
 pub from_parts-requires-clause-choices_there : goal.from_parts-requires-clause-choices_there
 from_parts-requires-clause-choices_there c =
     choices_there c.args.problem.now (wire_length c.args.lengths.now) c.in_ok-potentials.potentials.items
-    (are c) c.in_ok-roots.roots.choices.items c.in_ok-roots.ensures.choices
+    (are c) c.in_ok-sources.sources.choices.items c.in_ok-sources.ensures.choices
 
-made : (c : goal.After-drop-roots-5)
+made : (c : goal.After-drop-sources-5)
     → IsWeightedMade c.args.problem.now c.args.weights.now c.args.lengths.now c.from_parts.result
 made c =
     let board = c.args.problem.now in
     let potentials : List (List ℕ) = c.in_ok-potentials.potentials.items in
-    let choices : List ℕ = c.in_ok-roots.roots.choices.items in
+    let choices : List ℕ = c.in_ok-sources.sources.choices.items in
     let weights : c.in_ok-to_vec.field-0.items ≡ c.args.weights.now =
     c.in_ok-to_vec.ensures.items_if_clones_equal (search rules) in
     let lengths : c.in_ok-to_vec-2.field-0.items ≡ c.args.lengths.now =
@@ -66,18 +66,19 @@ made c =
       potentials = potentials;
       choices = choices;
     } in
-    let from_roots : AreRootPotentials board (wire_length c.args.lengths.now) potentials =
-    root_potentials board (wire_length c.args.lengths.now) c.as_slice.result.now potentials
-    (c.as_slice.ensures.keys ∙ c.in_ok-roots.ensures.fpgas)
+    let from_sources : AreSourcePotentials board (wire_length c.args.lengths.now) potentials =
+    source_potentials board (wire_length c.args.lengths.now) c.as_slice.result.now potentials
+    (c.as_slice.ensures.keys ∙ c.in_ok-sources.ensures.fpgas)
     (c.in_ok-potentials.ensures.least board c.requires.graph) in
     let cert : c.from_parts.result ≡ cert_of c.args.weights.now c.args.lengths.now =
     c.from_parts.ensures ∙ ap (λ (ws : List ℕ). cert_of ws c.in_ok-to_vec-2.field-0.items) weights
     ∙ ap (cert_of c.args.weights.now) lengths in
     subst (IsWeightedMade board c.args.weights.now c.args.lengths.now) (sym cert)
     (IsWeightedMade-from_parts board c.args.weights.now c.args.lengths.now choices potentials
-    c.in_ok-roots.ensures.board c.requires.weights_count c.requires.lengths_count
-    from_roots c.in_ok-roots.ensures.choices (potentials_few board (wire_length c.args.lengths.now) potentials
-    c.in_ok-roots.ensures.board from_roots))
+    c.in_ok-sources.ensures.board c.requires.weights_count c.requires.lengths_count
+    from_sources c.in_ok-sources.ensures.choices
+    (potentials_few board (wire_length c.args.lengths.now) potentials
+    c.in_ok-sources.ensures.board from_sources))
 
 pub returns-clause-made : goal.returns-clause-made
 returns-clause-made c = (made c).made

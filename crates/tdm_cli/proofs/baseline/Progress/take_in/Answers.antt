@@ -29,4 +29,5 @@ returns-in_ok-keep-clause-next c =
     c.in_ok-keep.ensures board c.args.n c.requires.so_far
     (subst (IsConnectable board) (sym c.net.ensures.value) joined)
     (subst (IsBaseTree board (source_of board c.args.n) (terminals_of board c.args.n)) (sym c.wires.ensures)
-    (base-at board c.args.n c.args.forest.now.root c.net.result.now _ c.requires.root c.net.ensures.value base))
+    (base-at board c.args.n c.args.forest.now.root c.net.result.now _ c.requires.root c.net.ensures.value
+    base))

@@ -10,7 +10,7 @@ use Rattle.tdm_problem.specs.Value.{largest}
 use Rattle.bound_cert.specs.Certificate.{Cert, length_of, potential_of, value_at, choice_of}
 use Rattle.bound_cert.specs.Bound.{smallest, spread, chosen_spread, net_spread}
 use Rattle.bound_cert.specs.Depths.{IsDepth, IsDepthOver, AreDepths, depth_of}
-use Rattle.bound_cert.specs.Makers.{IsRootValue, IsRootPotential, HasRootPotentials}
+use Rattle.bound_cert.specs.Makers.{IsSourceValue, IsSourcePotential, HasSourcePotentials}
 use Rattle.bound_cert.proofs.Largest.{largest-above, largest-within}
 use Rattle.bound_cert.proofs.Scaled.{distance_unique, distance_scaled}
 use Rattle.bound_cert.proofs.DepthLaws.{terminals_row, source_in}
@@ -26,14 +26,14 @@ smallest-below f (y ∷ z ∷ xs) x (suc k, there, is) =
     omega (arith, smallest-below f (z ∷ xs) x (k, omega arith, is))
 
 module _ (board : Board) (wire_length : ℕ → ℕ) where
-  value_at_distance : (root f far value : ℕ) → IsDistance board wire_length root f far
-      → IsRootValue board wire_length root f value → value ≡ far
-  value_at_distance root f far value is (inl distance) =
-      distance_unique board wire_length root f value far distance is
-  value_at_distance root f far value is (inr none) = absurd (none.0 is.walk.0 is.walk.1)
+  value_at_distance : (source f far value : ℕ) → IsDistance board wire_length source f far
+      → IsSourceValue board wire_length source f value → value ≡ far
+  value_at_distance source f far value is (inl distance) =
+      distance_unique board wire_length source f value far distance is
+  value_at_distance source f far value is (inr none) = absurd (none.0 is.walk.0 is.walk.1)
 
   module _ (n depth : ℕ) (potential : List ℕ) (row : IsRowBelow board.fpgas (terminals_of board n))
-      (is : IsDepthOver board wire_length n depth) (from_source : IsRootPotential board wire_length
+      (is : IsDepthOver board wire_length n depth) (from_source : IsSourcePotential board wire_length
       (source_of board n) potential) where
     value_of_terminal : (f far : ℕ) → Contains (terminals_of board n) f
         → IsDistance board wire_length (source_of board n) f far → value_at potential f ≡ far
@@ -73,7 +73,7 @@ module _ (board : Board) (wire_length : ℕ → ℕ) where
     spread_is = omega (arith, largest_is, smallest_is)
 
 pub net_spread_over : (board : Board) (cert : Cert) (n depth : ℕ) → IsBoard board
-    → HasRootPotentials board cert → n < length board.nets → IsDepthOver board (length_of cert) n depth
+    → HasSourcePotentials board cert → n < length board.nets → IsDepthOver board (length_of cert) n depth
     → net_spread board cert n ≡ depth
 net_spread_over board cert n depth is has there over =
     let chose = chosen board (length_of cert) cert.potentials cert.choices n has.potentials has.choices
@@ -101,7 +101,7 @@ IsDepthOver-scaled board wire_length unit even n depth is = record {
 }
 
 pub net_spread_is : (board : Board) (cert : Cert) (depths : List ℕ) (unit : ℕ) → IsBoard board
-    → ((e : ℕ) → e < length board.wires → length_of cert e ≡ unit) → HasRootPotentials board cert
+    → ((e : ℕ) → e < length board.wires → length_of cert e ≡ unit) → HasSourcePotentials board cert
     → AreDepths board depths → (n : ℕ) → n < length board.nets
     → net_spread board cert n ≡ unit * depth_of depths n
 net_spread_is board cert depths unit is even has are n there =

@@ -3,12 +3,12 @@ use Rattle.std.specs.Prelude.{slice_index}
 use Rattle.std.proofs.lemmas.Option.{get_or_from_slice_get}
 use Rattle.std.proofs.lemmas.Bool.{eqb-true}
 use Rattle.tdm_problem.specs.Legal.{source_of}
-use Rattle.bound_cert.proofs.RootLaws.{IsRooting, IsRooting-none, IsRooting-more, IsRooting-done, place_small}
-use Rattle.bound_cert.proofs.roots.Roots.of.Goals as goal
+use Rattle.bound_cert.proofs.SourceLaws.{AreSourcesBefore, AreSourcesBefore-none, AreSourcesBefore-more, AreSourcesBefore-done, place_small}
+use Rattle.bound_cert.proofs.sources.Sources.of.Goals as goal
 
 pub loop-n-init : goal.loop-n-init
 loop-n-init c =
-    IsRooting-none c.args.problem.now c.new-fpgas.result.keys c.in_ok-choices.choices.items
+    AreSourcesBefore-none c.args.problem.now c.new-fpgas.result.keys c.in_ok-choices.choices.items
     c.new-fpgas.ensures.empty c.in_ok-choices.ensures.items
 
 pub overflow_cast-place : goal.overflow_cast-place
@@ -35,20 +35,20 @@ loop-n-preserved c =
     let stored = c.in_ok-place.ensures.stored in
     let found : slice_index keys place ≡ x = get_or_from_slice_get keys place stored.0 0 stored.1
     ∙ sym (eqb-true x stored.0 stored.2) in
-    let next : IsRooting c.args.problem.now (c.loop-n.n + 1) keys (c.loop-n.choices.items ++ (place + 1) ∷ [])
-    =
-    IsRooting-more c.args.problem.now c.loop-n.n x place c.loop-n.fpgas.keys keys c.loop-n.choices.items
-    c.loop-n.invariant (omega arith) source
+    let next : AreSourcesBefore c.args.problem.now (c.loop-n.n + 1) keys
+    (c.loop-n.choices.items ++ (place + 1) ∷ []) =
+    AreSourcesBefore-more c.args.problem.now c.loop-n.n x place c.loop-n.fpgas.keys keys
+    c.loop-n.choices.items c.loop-n.invariant (omega arith) source
     c.in_ok-place.ensures.keys c.in_ok-place.ensures.within found in
-    subst (λ (choices : List ℕ). IsRooting c.args.problem.now (c.loop-n.n + 1) keys choices)
+    subst (λ (choices : List ℕ). AreSourcesBefore c.args.problem.now (c.loop-n.n + 1) keys choices)
     (sym c.in_ok-push.ensures.items) next
 
 pub returns-clause-fpgas : goal.returns-clause-fpgas
 returns-clause-fpgas c =
-    (IsRooting-done c.args.problem.now c.loop-n.n c.loop-n.fpgas.keys c.loop-n.choices.items
+    (AreSourcesBefore-done c.args.problem.now c.loop-n.n c.loop-n.fpgas.keys c.loop-n.choices.items
     c.loop-n.invariant (omega arith)).0
 
 pub returns-clause-choices : goal.returns-clause-choices
 returns-clause-choices c =
-    (IsRooting-done c.args.problem.now c.loop-n.n c.loop-n.fpgas.keys c.loop-n.choices.items
+    (AreSourcesBefore-done c.args.problem.now c.loop-n.n c.loop-n.fpgas.keys c.loop-n.choices.items
     c.loop-n.invariant (omega arith)).1

@@ -12,7 +12,7 @@ use Rattle.tdm_problem.specs.Firsts.{with_met}
 use Rattle.tdm_problem.proofs.Repeats.{without_repeats-take_more, All-without_repeats, AllPairs-without_repeats}
 use Rattle.bound_cert.proofs.Distinct.{length_of_distinct}
 use Rattle.tdm_problem.specs.Legal.{source_of}
-use Rattle.bound_cert.specs.Sources.{roots_of}
+use Rattle.bound_cert.specs.Sources.{sources_of}
 use Rattle.bound_cert.specs.Makers.{IsChoiceAmong, ChooseSources}
 
 -- one entry more at the end of a list
@@ -64,15 +64,15 @@ kept_met keys x false = record {
 }
 
 -- the sources of the nets before net n, each once, and which of them each of these nets chooses
-pub record IsRooting (board : Board) (n : ℕ) (keys choices : List ℕ) : Type 0 where
+pub record AreSourcesBefore (board : Board) (n : ℕ) (keys choices : List ℕ) : Type 0 where
   pub keys_are : keys ≡ without_repeats (take n (map (λ net. slice_index net 0) board.nets))
   pub count : length choices ≡ n
   pub few : length keys ≤ n
   pub each : (k : ℕ) → k < n → IsChoiceAmong keys (source_of board k) (slice_index choices k)
 
-pub IsRooting-none : (board : Board) (keys choices : List ℕ) → keys ≡ [] → choices ≡ []
-    → IsRooting board 0 keys choices
-IsRooting-none board keys choices no_keys no_choices = record {
+pub AreSourcesBefore-none : (board : Board) (keys choices : List ℕ) → keys ≡ [] → choices ≡ []
+    → AreSourcesBefore board 0 keys choices
+AreSourcesBefore-none board keys choices no_keys no_choices = record {
   keys_are = no_keys;
   count = ap length no_choices;
   few = omega (arith, ap length no_keys);
@@ -83,17 +83,17 @@ IsRooting-none board keys choices no_keys no_choices = record {
 chosen_among_more : (keys keys' : List ℕ) → AreKept keys keys' → (source choice : ℕ)
     → IsChoiceAmong keys source choice → IsChoiceAmong keys' source choice
 chosen_among_more keys keys' kept source choice chosen = record {
-  root = chosen.root;
+  place = chosen.place;
   there = omega (arith, chosen.there, kept.more);
   choice_is = chosen.choice_is;
-  source_is = kept.kept chosen.root chosen.there ∙ chosen.source_is;
+  source_is = kept.kept chosen.place chosen.there ∙ chosen.source_is;
 }
 
-pub IsRooting-more : (board : Board) (n x place : ℕ) (keys keys' choices : List ℕ)
-    → IsRooting board n keys choices → n < length board.nets → x ≡ source_of board n
+pub AreSourcesBefore-more : (board : Board) (n x place : ℕ) (keys keys' choices : List ℕ)
+    → AreSourcesBefore board n keys choices → n < length board.nets → x ≡ source_of board n
     → keys' ≡ insert_key eqb keys x → place < length keys' → slice_index keys' place ≡ x
-    → IsRooting board (n + 1) keys' (choices ++ (place + 1) ∷ [])
-IsRooting-more board n x place keys keys' choices so_far there source inserted within found =
+    → AreSourcesBefore board (n + 1) keys' (choices ++ (place + 1) ∷ [])
+AreSourcesBefore-more board n x place keys keys' choices so_far there source inserted within found =
     let row : List ℕ = map (λ net. slice_index net 0) board.nets in
     let met : keys' ≡ with_met keys x = inserted ∙ inserted_met keys x in
     let kept : AreKept keys keys' = subst (λ (ks : List ℕ). AreKept keys ks) (sym met)
@@ -113,17 +113,17 @@ IsRooting-more board n x place keys keys' choices so_far there source inserted w
           (place + 1) 0 n so_far.count
           (λ k below. chosen_among_more keys keys' kept (source_of board k) (slice_index choices k)
           (so_far.each k below))
-          (record { root = place; there = within; choice_is = refl; source_is = found ∙ source });
+          (record { place = place; there = within; choice_is = refl; source_is = found ∙ source });
     }
 
 -- after all nets
-pub IsRooting-done : (board : Board) (n : ℕ) (keys choices : List ℕ) → IsRooting board n keys choices
-    → length board.nets ≡ n → (keys ≡ roots_of board) × ChooseSources board choices
-IsRooting-done board n keys choices so_far all =
+pub AreSourcesBefore-done : (board : Board) (n : ℕ) (keys choices : List ℕ)
+    → AreSourcesBefore board n keys choices → length board.nets ≡ n → (keys ≡ sources_of board) × ChooseSources board choices
+AreSourcesBefore-done board n keys choices so_far all =
     let row : List ℕ = map (λ net. slice_index net 0) board.nets in
     let whole : take n row ≡ row =
     take_all n row (omega (arith, all, length-map board.nets (λ (net : List ℕ). slice_index net 0))) in
-    let keys_all : keys ≡ roots_of board = so_far.keys_are ∙ ap without_repeats whole in (
+    let keys_all : keys ≡ sources_of board = so_far.keys_are ∙ ap without_repeats whole in (
       keys_all,
       record {
         count = so_far.count ∙ sym all;
@@ -142,15 +142,15 @@ place_small keys keys' x place n inserted within few =
     (kept_met keys x (list_any (λ y. y == x) keys)) in
     omega (arith, kept.few)
 
--- the roots are FPGAs of the board, and no more than there are
-pub roots_below : (board : Board) → IsBoard board → All (λ root. root < board.fpgas) (roots_of board)
-roots_below board is =
-    All-without_repeats (λ root. root < board.fpgas) (map (λ net. slice_index net 0) board.nets)
-    (All-map (λ root. root < board.fpgas) (λ (net : List ℕ). slice_index net 0) board.nets
+-- the sources are FPGAs of the board, and no more than there are
+pub sources_below : (board : Board) → IsBoard board → All (λ source. source < board.fpgas) (sources_of board)
+sources_below board is =
+    All-without_repeats (λ source. source < board.fpgas) (map (λ net. slice_index net 0) board.nets)
+    (All-map (λ source. source < board.fpgas) (λ (net : List ℕ). slice_index net 0) board.nets
     (All-weaker (IsRowBelow board.fpgas) (λ net. slice_index net 0 < board.fpgas)
     (λ net row. row.below 0 0 row.some) board.nets is.nets))
 
-pub roots_few : (board : Board) → IsBoard board → length (roots_of board) ≤ board.fpgas
-roots_few board is =
-    length_of_distinct (roots_of board) board.fpgas
-    (AllPairs-without_repeats (map (λ net. slice_index net 0) board.nets)) (roots_below board is)
+pub sources_few : (board : Board) → IsBoard board → length (sources_of board) ≤ board.fpgas
+sources_few board is =
+    length_of_distinct (sources_of board) board.fpgas
+    (AllPairs-without_repeats (map (λ net. slice_index net 0) board.nets)) (sources_below board is)
