@@ -5,7 +5,7 @@ use Rattle.std.proofs.lemmas.Grind.{common_steps}
 use Rattle.std.proofs.lemmas.List.Elements.{All-cons}
 use Rattle.tdm_lines.specs.Tokens.{fits, value}
 use Rattle.tdm_lines.specs.Lines.{Line, TokenFault, BadNumber, NumberTooLarge, pieces, put_line, line_of, lines_from, numbers_of}
-use Rattle.tdm_lines.specs.Scan.{first_tokens, after_line, IsReadOf}
+use Rattle.tdm_lines.specs.Scan.{first_tokens, after_first_line, IsReadOf}
 use Rattle.tdm_lines.proofs.TextLemmas.{lines_from-step}
 
 put_line-some : (max n : ℕ) (toks : List (List ℕ)) (later : List Line) → true ≡ nat_lt 0 (length toks)
@@ -20,19 +20,20 @@ put_line-none max n (t ∷ ts) later h = absurd (grind (arith, common_steps))
 
 -- a line that was read is the first line
 pub first_line-read : (max n : ℕ) (text rest numbers : List ℕ) (fault : Option TokenFault)
-    → rest ≡ after_line text → true ≡ nat_lt 0 (length (first_tokens text))
+    → rest ≡ after_first_line text → true ≡ nat_lt 0 (length (first_tokens text))
     → IsReadOf max (first_tokens text) fault numbers
     → lines_from max n (pieces text) ≡ record { number = n; fault = fault; numbers = numbers }
     ∷ lines_from max (n + 1) (pieces rest)
 first_line-read max n text rest numbers fault after some read =
-    let later : lines_from max (n + 1) (pieces (after_line text)) ≡ lines_from max (n + 1) (pieces rest) =
+    let later : lines_from max (n + 1) (pieces (after_first_line text))
+    ≡ lines_from max (n + 1) (pieces rest) =
     ap (λ t. lines_from max (n + 1) (pieces t)) (sym after) in
     let line : Option TokenFault → List ℕ → Line = λ f ns. record { number = n; fault = f; numbers = ns } in
     lines_from-step max n text ∙ put_line-some max n (first_tokens text) _ some
     ∙ (λ i. line (sym read.fault_is i) (sym read.numbers_are i) ∷ later i)
 
 -- a piece without a token is no line
-pub lines_from-skip : (max n : ℕ) (text rest : List ℕ) → rest ≡ after_line text
+pub lines_from-skip : (max n : ℕ) (text rest : List ℕ) → rest ≡ after_first_line text
     → false ≡ nat_lt 0 (length (first_tokens text))
     → lines_from max (n + 1) (pieces rest) ≡ lines_from max n (pieces text)
 lines_from-skip max n text rest after none =

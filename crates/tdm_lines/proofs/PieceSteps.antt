@@ -3,7 +3,7 @@ use Rattle.std.proofs.Common.{◌≡◌, ℕ, ◌<◌, ◌≤◌, Bool, true, fa
 use Rattle.std.proofs.lemmas.Grind.{common_steps}
 use Rattle.tdm_lines.specs.Tokens.{is_blank}
 use Rattle.tdm_lines.specs.Lines.{TokenFault}
-use Rattle.tdm_lines.specs.Scan.{first_tokens, after_line, SameAhead, BeginsWith, IsReadOf, reading_of}
+use Rattle.tdm_lines.specs.Scan.{first_tokens, after_first_line, SameAhead, BeginsWith, IsReadOf, reading_of}
 
 -- the tokens of the piece from `at` on, as far as `place`, with their numbers or their fault
 pub record PieceSoFar (bytes : List ℕ) (at place max : ℕ) (has_token : Bool) (fault : Option TokenFault)
@@ -13,7 +13,7 @@ pub record PieceSoFar (bytes : List ℕ) (at place max : ℕ) (has_token : Bool)
   pub no_blank : place < length bytes → is_blank (get_or bytes place 0) ≡ false
   pub done : List (List ℕ)
   pub all : first_tokens (drop at bytes) ≡ done ++ first_tokens (drop place bytes)
-  pub same_lines : after_line (drop at bytes) ≡ after_line (drop place bytes)
+  pub same_lines : after_first_line (drop at bytes) ≡ after_first_line (drop place bytes)
   pub some : has_token ≡ nat_lt 0 (length done)
   pub read : IsReadOf max done fault numbers
 

@@ -5,7 +5,7 @@ use Rattle.std.proofs.lemmas.Grind.{common_steps}
 use Rattle.std.proofs.lemmas.List.{append-nil}
 use Rattle.tdm_lines.specs.Tokens.{tokens, is_blank}
 use Rattle.tdm_lines.specs.Lines.{Line, lines, lines_from, put_line, pieces}
-use Rattle.tdm_lines.specs.Scan.{first_tokens, after_line, is_token_byte}
+use Rattle.tdm_lines.specs.Scan.{first_tokens, after_first_line, is_token_byte}
 use Rattle.tdm_lines.specs.Pending.{unfinished}
 use Rattle.tdm_lines.specs.SoFar.{IsSoFar, token_there}
 use Rattle.tdm_lines.proofs.TextLemmas.{lines_from-step, BeginsWith-run, IsCut, SameAhead-blank, SameAhead-refl, before_first-cons_yes, after_first-cons_yes}
@@ -36,12 +36,12 @@ so_far-run max n text run done toks all so rest =
     ∙ ap (λ t. t ++ rest) (sym (unfinished-run text run all)) in
     ap (lines max) (append_assoc text run rest) ∙ so (run ++ rest)
     ∙ ap (λ t. done ++ put_line max n (toks ++ first_tokens t)
-    (lines_from max (n + 1) (pieces (after_line t)))) more
+    (lines_from max (n + 1) (pieces (after_first_line t)))) more
 
 -- what follows a token that a blank ends
 blank-ahead : (token rest : List ℕ) (byte : ℕ) → list_all is_token_byte token ≡ true → is_blank byte ≡ true
     → (first_tokens (token ++ byte ∷ rest) ≡ token_there token ++ first_tokens rest)
-    × (after_line (token ++ byte ∷ rest) ≡ after_line rest)
+    × (after_first_line (token ++ byte ∷ rest) ≡ after_first_line rest)
 unfolding IsCut
 blank-ahead [] rest byte all blank =
     let same = SameAhead-blank (byte ∷ rest) rest byte blank (SameAhead-refl (byte ∷ rest)) in
@@ -53,7 +53,7 @@ blank-ahead (x ∷ xs) rest byte all blank =
 
 -- what follows a token that a line feed ends
 feed-ahead : (token rest : List ℕ) → list_all is_token_byte token ≡ true
-    → (first_tokens (token ++ 10 ∷ rest) ≡ token_there token) × (after_line (token ++ 10 ∷ rest) ≡ rest)
+    → (first_tokens (token ++ 10 ∷ rest) ≡ token_there token) × (after_first_line (token ++ 10 ∷ rest) ≡ rest)
 unfolding IsCut
 feed-ahead [] rest all = (
   ap tokens (before_first-cons_yes (λ b. b == 10) 10 rest refl),
@@ -75,13 +75,13 @@ so_far-blank max n text byte done toks dark blank so rest =
     ap (λ t. t ++ rest) (sym (unfinished-end text byte dark)) in
     ap (lines max) (append_assoc text (byte ∷ []) rest) ∙ so (byte ∷ rest)
     ∙ ap (λ ts. done ++ put_line max n (toks ++ ts)
-    (lines_from max (n + 1) (pieces (after_line (unfinished text ++ byte ∷ rest))))) ahead.0
+    (lines_from max (n + 1) (pieces (after_first_line (unfinished text ++ byte ∷ rest))))) ahead.0
     ∙ ap (λ t. done ++ put_line max n (toks ++ (token_there (unfinished text) ++ first_tokens rest))
     (lines_from max (n + 1) (pieces t))) ahead.1
-    ∙ ap (λ ts. done ++ put_line max n ts (lines_from max (n + 1) (pieces (after_line rest))))
+    ∙ ap (λ ts. done ++ put_line max n ts (lines_from max (n + 1) (pieces (after_first_line rest))))
     (sym (append_assoc toks (token_there (unfinished text)) (first_tokens rest)))
     ∙ ap (λ t. done ++ put_line max n (toks ++ token_there (unfinished text) ++ first_tokens t)
-    (lines_from max (n + 1) (pieces (after_line t)))) none
+    (lines_from max (n + 1) (pieces (after_first_line t)))) none
 
 -- with a line feed
 pub so_far-feed : (max n : ℕ) (text : List ℕ) (done : List Line) (toks : List (List ℕ))
@@ -95,16 +95,16 @@ so_far-feed max n text done toks so rest =
     let whole : List (List ℕ) = toks ++ token_there (unfinished text) in
     ap (lines max) (append_assoc text (10 ∷ []) rest) ∙ so (10 ∷ rest)
     ∙ ap (λ ts. done ++ put_line max n (toks ++ ts)
-    (lines_from max (n + 1) (pieces (after_line (unfinished text ++ 10 ∷ rest))))) ahead.0
+    (lines_from max (n + 1) (pieces (after_first_line (unfinished text ++ 10 ∷ rest))))) ahead.0
     ∙ ap (λ t. done ++ put_line max n whole (lines_from max (n + 1) (pieces t))) ahead.1
     ∙ ap (λ ls. done ++ put_line max n whole ls) (lines_from-step max (n + 1) rest)
     ∙ ap (λ ls. done ++ ls)
     (put_line-append max n whole [] (put_line max (n + 1) (first_tokens rest)
-    (lines_from max (n + 1 + 1) (pieces (after_line rest)))))
+    (lines_from max (n + 1 + 1) (pieces (after_first_line rest)))))
     ∙ sym (append_assoc done (put_line max n whole []) (put_line max (n + 1) (first_tokens rest)
-    (lines_from max (n + 1 + 1) (pieces (after_line rest)))))
+    (lines_from max (n + 1 + 1) (pieces (after_first_line rest)))))
     ∙ ap (λ t. done ++ put_line max n whole [] ++ put_line max (n + 1) (first_tokens t)
-    (lines_from max (n + 1 + 1) (pieces (after_line t)))) none
+    (lines_from max (n + 1 + 1) (pieces (after_first_line t)))) none
 
 -- the lines of a text that ends here
 pub so_far-end : (max n : ℕ) (text : List ℕ) (done : List Line) (toks : List (List ℕ))
@@ -116,12 +116,12 @@ so_far-end max n text done toks so =
   where
     ending : (token : List ℕ) → list_all is_token_byte token ≡ true
         → done ++ put_line max n (toks ++ first_tokens (token ++ []))
-        (lines_from max (n + 1) (pieces (after_line (token ++ []))))
+        (lines_from max (n + 1) (pieces (after_first_line (token ++ []))))
         ≡ done ++ put_line max n (toks ++ token_there token) []
     ending [] all = refl
     ending (x ∷ xs) all =
         let begins = BeginsWith-run (x ∷ xs) [] all (omega arith) tt in
         ap (λ ts. done ++ put_line max n (toks ++ ts)
-        (lines_from max (n + 1) (pieces (after_line (x ∷ xs ++ []))))) begins.first
+        (lines_from max (n + 1) (pieces (after_first_line (x ∷ xs ++ []))))) begins.first
         ∙ ap (λ t. done ++ put_line max n (toks ++ (x ∷ xs) ∷ []) (lines_from max (n + 1) (pieces t)))
         begins.same_lines

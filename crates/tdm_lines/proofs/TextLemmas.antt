@@ -8,7 +8,7 @@ use Rattle.std.proofs.lemmas.List.{take_all, drop_all, append-nil}
 use Rattle.std.proofs.Math.Seq.{drop-cons}
 use Rattle.tdm_lines.specs.Tokens.{tokens, is_token, is_blank}
 use Rattle.tdm_lines.specs.Lines.{pieces, put_line, lines_from}
-use Rattle.tdm_lines.specs.Scan.{first_tokens, after_line, is_token_byte, SameAhead, BeginsWith}
+use Rattle.tdm_lines.specs.Scan.{first_tokens, after_first_line, is_token_byte, SameAhead, BeginsWith}
 
 module _ {X : Type 0} (p : X → Bool) where
   pub before_first-cons_yes : (x : X) (xs : List X) → p x ≡ true → before_first p (x ∷ xs) ≡ []
@@ -119,7 +119,7 @@ before-run (x ∷ xs) later h =
     ∙ ap (λ l. x ∷ l) (before-run xs later split.1)
 
 after-run : (token later : List ℕ) → list_all is_token_byte token ≡ true
-    → after_line (token ++ later) ≡ after_line later
+    → after_first_line (token ++ later) ≡ after_first_line later
 after-run [] later h = refl
 after-run (x ∷ xs) later h =
     let split = both _ _ h in
@@ -145,14 +145,14 @@ BeginsWith-run token later h some cut = record {
 
 -- a line is the tokens before the line feed, and the other lines follow it
 pub lines_from-step : (max n : ℕ) (text : List ℕ) → lines_from max n (pieces text)
-    ≡ put_line max n (first_tokens text) (lines_from max (n + 1) (pieces (after_line text)))
+    ≡ put_line max n (first_tokens text) (lines_from max (n + 1) (pieces (after_first_line text)))
 lines_from-step max n text =
     elim (eq-zero-or-pos (length text - position_or_len (λ b. b == 10) text)) [
       | inl none ↦
           let all : All (λ b. (b == 10) ≡ false) text = λ k d lt. fails_before_first (λ b. b == 10) text k d
           (omega arith) in
           let whole : before_first (λ b. b == 10) text ≡ text = take_all _ text (omega arith) in
-          let nothing : after_line text ≡ [] = drop_all _ text (omega arith) in
+          let nothing : after_first_line text ≡ [] = drop_all _ text (omega arith) in
           ap (lines_from max n) (slice_split_none (λ b. b == 10) text all) ∙ rw (whole, nothing)
       | inr some ↦ ap (lines_from max n) (slice_split_first (λ b. b == 10) text 0 (omega arith))
     ]

@@ -11,7 +11,7 @@ use Rattle.std.proofs.lemmas.List.Elements.{All-head, All-tail, All-nil, All-con
 use Rattle.tdm_lines.specs.Digits.{digits}
 use Rattle.tdm_lines.specs.Tokens.{is_number, fits, value}
 use Rattle.tdm_lines.specs.Lines.{Line, pieces, lines_from, line_of, put_line}
-use Rattle.tdm_lines.specs.Scan.{first_tokens, after_line, is_token_byte}
+use Rattle.tdm_lines.specs.Scan.{first_tokens, after_first_line, is_token_byte}
 use Rattle.tdm_lines.specs.Written.{line_text, plain_line, plain_lines, IsRow}
 use Rattle.tdm_lines.proofs.TextLemmas.{BeginsWith-run, IsCut, SameAhead-blank, SameAhead-refl, lines_from-step}
 
@@ -67,7 +67,7 @@ IsToken-digits n lt = let numeral = (decimal_is_IsNumeral_wide n lt).0 in
 -- a text begins with these tokens and a line feed, after which the rest stands
 pub record BeginsWithLine (text : List ℕ) (toks : List (List ℕ)) (rest : List ℕ) : Type 0 where
   pub toks_are : first_tokens text ≡ toks
-  pub rest_is : after_line text ≡ rest
+  pub rest_is : after_first_line text ≡ rest
 
 pub BeginsWithLine-join : (toks : List (List ℕ)) (rest : List ℕ) → All IsToken toks
     → BeginsWithLine (join_with_byte 32 toks ++ 10 ∷ rest) toks rest
@@ -87,7 +87,7 @@ BeginsWithLine-join (t ∷ u ∷ more) rest h =
     append_assoc t (32 ∷ join_with_byte 32 (u ∷ more)) (10 ∷ rest) in
     record {
       toks_are = ap first_tokens text ∙ begins.first ∙ ap (λ ts. t ∷ ts) (same.same_tokens ∙ next.toks_are);
-      rest_is = ap after_line text ∙ begins.same_lines ∙ same.same_lines ∙ next.rest_is;
+      rest_is = ap after_first_line text ∙ begins.same_lines ∙ same.same_lines ∙ next.rest_is;
     }
 
 put_line-row : (max n : ℕ) (ns : List ℕ) (later : List Line) → 0 < length ns
@@ -128,7 +128,8 @@ module _ (max : ℕ) (room : max < 10 ^ 64) where
       append_assoc (join_with_byte 32 toks) (10 ∷ []) rest in
       let begins = BeginsWithLine-join toks rest read.0 in
       let first : first_tokens (line_text ns ++ rest) ≡ toks = ap first_tokens text ∙ begins.toks_are in
-      let after : after_line (line_text ns ++ rest) ≡ rest = ap after_line text ∙ begins.rest_is in
+      let after : after_first_line (line_text ns ++ rest) ≡ rest = ap after_first_line text
+      ∙ begins.rest_is in
       lines_from-step max n (line_text ns ++ rest)
       ∙ (λ i. put_line max n (first i) (lines_from max (n + 1) (pieces (after i))))
       ∙ put_line-row max n ns (lines_from max (n + 1) (pieces rest)) row.some

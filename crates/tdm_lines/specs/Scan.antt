@@ -19,18 +19,18 @@ abbrev pub first_tokens : List ℕ → List (List ℕ)
 first_tokens text = tokens (before_first (λ byte. byte == 10) text)
 
 -- what follows the first line feed
-abbrev pub after_line : List ℕ → List ℕ
-after_line text = after_first (λ byte. byte == 10) text
+abbrev pub after_first_line : List ℕ → List ℕ
+after_first_line text = after_first (λ byte. byte == 10) text
 
 -- both texts go on with the same tokens, and then with the same lines
 pub record SameAhead (text later : List ℕ) : Type 0 where
   pub same_tokens : first_tokens text ≡ first_tokens later
-  pub same_lines : after_line text ≡ after_line later
+  pub same_lines : after_first_line text ≡ after_first_line later
 
 -- a text begins with a token, after which the later text stands
 pub record BeginsWith (text token later : List ℕ) : Type 0 where
   pub first : first_tokens text ≡ token ∷ first_tokens later
-  pub same_lines : after_line text ≡ after_line later
+  pub same_lines : after_first_line text ≡ after_first_line later
 
 -- the fault and the numbers are those of the tokens
 pub record IsReadOf (max : ℕ) (toks : List (List ℕ)) (fault : Option TokenFault)

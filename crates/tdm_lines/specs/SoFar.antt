@@ -3,7 +3,7 @@ use Rattle.std.specs.Prelude.{◌≡◌, ℕ, ◌+◌, List, [], ◌∷◌, ◌+
 use Rattle.tdm_lines.specs.declared.line.TokenFault.{TokenFault}
 use Rattle.tdm_lines.specs.Tokens.{value}
 use Rattle.tdm_lines.specs.Lines.{Line, lines, lines_from, put_line, pieces, fault_of}
-use Rattle.tdm_lines.specs.Scan.{first_tokens, after_line}
+use Rattle.tdm_lines.specs.Scan.{first_tokens, after_first_line}
 use Rattle.tdm_lines.specs.Pending.{Scanned, StandsFor, unfinished}
 
 -- line n, whose numbers count where it has no fault
@@ -21,7 +21,7 @@ token_there (byte ∷ more) = (byte ∷ more) ∷ []
 abbrev pub IsSoFar : ℕ → ℕ → List ℕ → List Line → List (List ℕ) → Type 0
 IsSoFar max n text done toks = (rest : List ℕ) → lines max (text ++ rest)
     ≡ done ++ put_line max n (toks ++ first_tokens (unfinished text ++ rest))
-    (lines_from max (n + 1) (pieces (after_line (unfinished text ++ rest))))
+    (lines_from max (n + 1) (pieces (after_first_line (unfinished text ++ rest))))
 
 -- the state is what the lines that are done made of it, and holds these tokens of the line in progress
 pub record Keeps {G : Type 0} (reads : G → List Line → Type 0) (holds : G → List ℕ → Type 0)

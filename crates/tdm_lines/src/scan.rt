@@ -2,7 +2,7 @@
 ghost use Rattle.std.specs.Prelude.{◌≡◌, ℕ, ◌+◌, ◌*◌, ◌≤◌, ◌<◌, ◌++◌, [], ◌∷◌, length, drop, IfOk, IsTrue, IsFalse, nat_lt, slice_index, slice_range, List};
 ghost use Rattle.tdm_lines.specs.Lines.{NumberTooLarge};
 ghost use Rattle.tdm_lines.specs.Tokens.{is_blank};
-ghost use Rattle.tdm_lines.specs.Scan.{is_token_byte, reading_of, first_tokens, after_line, SameAhead, BeginsWith, IsReadOf, worse_of};
+ghost use Rattle.tdm_lines.specs.Scan.{is_token_byte, reading_of, first_tokens, after_first_line, SameAhead, BeginsWith, IsReadOf, worse_of};
 
 use crate::line::TokenFault;
 use std::alloc::AllocError;
@@ -150,7 +150,7 @@ pub(crate) fn read_piece(
     requires { at < length bytes.now }
     ensures from { IfOk result (λ piece. at < piece.next) }
     ensures next { IfOk result (λ piece.
-        drop piece.next bytes.now ≡ after_line (drop at bytes.now)) }
+        drop piece.next bytes.now ≡ after_first_line (drop at bytes.now)) }
     ensures token { IfOk result (λ piece.
         piece.has_token ≡ nat_lt 0 (length (first_tokens (drop at bytes.now)))) }
     ensures read { IfOk result (λ piece.
