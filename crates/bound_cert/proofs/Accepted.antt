@@ -9,10 +9,11 @@ use Rattle.tdm_lines.specs.Tokens.{tokens}
 use Rattle.tdm_lines.specs.Lines.{Line, lines, lines_from, put_line, line_after, pieces}
 use Rattle.tdm_lines.proofs.LineSteps.{numbers_of-within}
 use Rattle.tdm_problem.specs.Board.{Board}
+use Rattle.tdm_problem.specs.Limits.{most_weight}
 use Rattle.bound_cert.specs.declared.certificate.CertKind.{CertKind}
 use Rattle.bound_cert.specs.declared.certificate.CertKind.TheVariants.{Share, Hop}
 use Rattle.bound_cert.specs.declared.header.Header.{Header}
-use Rattle.bound_cert.specs.Limits.{most_weight, most_length, most_unit, most_potentials, most_potential_value}
+use Rattle.bound_cert.specs.Limits.{most_length, most_unit, most_potentials, most_potential_value}
 use Rattle.bound_cert.specs.declared.refusal.CertTextKind.{CertTextKind}
 use Rattle.bound_cert.specs.declared.refusal.CertTextKind.TheVariants.{NoHeader, BadUnit, BadKind, MissingLine, WeightLimit, LengthLimit, UnknownPotential}
 use Rattle.bound_cert.specs.CertKinds.{CertRefusal, of_token}

@@ -5,12 +5,13 @@ use Rattle.std.proofs.lemmas.List.{append-nil}
 use Rattle.std.proofs.lemmas.List.Elements.{All-nil, All-cons, All-head, All-tail, All-weaker}
 use Rattle.std.proofs.lemmas.Bool.{ne_eqb, eq-eqb, le-ltb}
 use Rattle.tdm_problem.specs.Board.{Board}
+use Rattle.tdm_problem.specs.Limits.{most_weight}
 use Rattle.tdm_lines.specs.Lines.{pieces, lines_from, lines, line_after}
 use Rattle.tdm_lines.specs.Written.{line_text, IsRow}
 use Rattle.tdm_lines.proofs.WrittenLemmas.{lines_from-line_text}
 use Rattle.bound_cert.specs.declared.certificate.CertKind.{CertKind}
 use Rattle.bound_cert.specs.declared.certificate.CertKind.TheVariants.{Share, Hop}
-use Rattle.bound_cert.specs.Limits.{most_weight, most_length, most_unit, most_potentials, most_potential_value}
+use Rattle.bound_cert.specs.Limits.{most_length, most_unit, most_potentials, most_potential_value}
 use Rattle.bound_cert.specs.declared.refusal.CertTextKind.{CertTextKind}
 use Rattle.bound_cert.specs.declared.refusal.CertTextKind.TheVariants.{NoHeader, WeightLimit, LengthLimit, UnknownPotential, MissingLine}
 use Rattle.bound_cert.specs.CertKinds.{CertRefusal}

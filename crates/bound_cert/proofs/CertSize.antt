@@ -5,13 +5,14 @@ use Rattle.std.proofs.lemmas.List.Elements.{All-head, All-tail, All-weaker}
 use Rattle.std.proofs.lemmas.List.Sums.{sum_by-cons}
 use Rattle.std.proofs.lemmas.Fmt.{length-decimal-le_wide}
 use Rattle.tdm_problem.specs.Board.{Board, IsBoard}
+use Rattle.tdm_problem.specs.Limits.{most_weight}
 use Rattle.tdm_lines.specs.Digits.{digits}
 use Rattle.tdm_lines.specs.Written.{line_text}
 use Rattle.text_writer.specs.Writing.{number_then}
 use Rattle.text_writer.proofs.LineParts.{line-next}
 use Rattle.bound_cert.specs.declared.certificate.CertKind.{CertKind}
 use Rattle.bound_cert.specs.declared.certificate.CertKind.TheVariants.{Share, Hop}
-use Rattle.bound_cert.specs.Limits.{most_weight, most_length, most_unit, most_potentials, most_potential_value}
+use Rattle.bound_cert.specs.Limits.{most_length, most_unit, most_potentials, most_potential_value}
 use Rattle.bound_cert.specs.Certificate.{Cert, IsCert, IsCertFor, IsPotential, HasLengths}
 use Rattle.bound_cert.specs.CertText.{header_row, listed_lengths, listed_choices, version_of, number_of_kind, unit_of_kind, number_line, cert_text}
 

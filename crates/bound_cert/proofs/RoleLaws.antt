@@ -8,6 +8,7 @@ use Rattle.tdm_lines.specs.FirstNumbers.{Firsts}
 use Rattle.tdm_lines.specs.Lines.{Line, lines, line_after}
 use Rattle.tdm_lines.specs.SoFar.{ended_line}
 use Rattle.tdm_problem.specs.Board.{Board}
+use Rattle.tdm_problem.specs.Limits.{most_weight}
 use Rattle.bound_cert.specs.declared.certificate.CertKind.{CertKind}
 use Rattle.bound_cert.specs.declared.certificate.CertKind.TheVariants.{Share}
 use Rattle.bound_cert.specs.declared.header.Header.{Header}
@@ -20,7 +21,7 @@ use Rattle.bound_cert.specs.Certificate.{Cert, HasLengths, IsPotential}
 use Rattle.bound_cert.specs.CertReader.{listed, sizes_of}
 use Rattle.tdm_lines.specs.Refusals.{IsFaultOf, refused, clean, ◌>>=◌}
 use Rattle.bound_cert.specs.CertReading.{header_said, number_said, potential_said, section_from, cert_of}
-use Rattle.bound_cert.specs.Limits.{most_weight, most_length, most_potential_value}
+use Rattle.bound_cert.specs.Limits.{most_length, most_potential_value}
 use Rattle.bound_cert.specs.Roles.{line_said, in_section, from_header, past_header, IsKept}
 
 -- ---- one line

@@ -31,7 +31,7 @@ chosen_spread cert fpgas (suc p) = spread (potential_of cert p) fpgas
 abbrev pub net_spread : Board → Cert → (n : ℕ) → ℕ
 net_spread board cert n = chosen_spread cert (terminals_of board n) (choice_of cert n)
 
--- the weight of net n: that of each group that holds it
+-- the weight of net n: the sum of the weights of the groups that hold it
 abbrev pub weight_of_net : Board → Cert → (n : ℕ) → ℕ
 weight_of_net board cert n = net_weight board.groups cert.weights n
 
@@ -39,43 +39,42 @@ weight_of_net board cert n = net_weight board.groups cert.weights n
 abbrev pub root_of_net : Board → Cert → (n : ℕ) → ℕ
 root_of_net board cert n = root_of (weight_of_net board cert n)
 
--- such spreads of all nets, by the roots of their weights
+-- the sum over all nets of the spread times the root of the weight
 abbrev pub root_sum : Board → Cert → (spreads : ℕ → ℕ) → ℕ
 root_sum board cert spreads = sum_below (length board.nets) (λ n. root_of_net board cert n * spreads n)
 
--- such spreads of all nets, by their weights
+-- the sum over all nets of the spread times the weight
 abbrev pub weight_sum : Board → Cert → (spreads : ℕ → ℕ) → ℕ
 weight_sum board cert spreads = sum_below (length board.nets) (λ n. weight_of_net board cert n * spreads n)
 
--- what a bound times the divisor must reach where nets are spread so, 0 where that is negative, by a
--- certificate of this kind
+-- what the bound of a certificate of this kind, times its divisor, has to reach where nets have these
+-- spreads; 0 where that is negative
 abbrev pub demand_by : CertKind → Board → Cert → (spreads : ℕ → ℕ) → ℕ
 demand_by Share board cert spreads = 2 * root_sum board cert spreads - sum_by (λ l. l * l) cert.lengths
 demand_by (Hop unit) board cert spreads = 2 * weight_sum board cert spreads
 
--- the spreads of all nets by their choices, by the roots of their weights
+-- the sum over all nets of the spread by the net's choice times the root of the weight
 abbrev pub root_spreads : Board → Cert → ℕ
 root_spreads board cert = root_sum board cert (net_spread board cert)
 
--- the spreads of all nets by their choices, by their weights
+-- the sum over all nets of the spread by the net's choice times the weight
 abbrev pub weight_spreads : Board → Cert → ℕ
 weight_spreads board cert = weight_sum board cert (net_spread board cert)
 
--- what the bound by choices times the divisor must reach, by a certificate of this kind
+-- the demand of a certificate of this kind where nets have the spreads by their choices
 abbrev pub demand_of_kind : CertKind → Board → Cert → ℕ
 demand_of_kind kind board cert = demand_by kind board cert (net_spread board cert)
 
--- what the bound by choices times the divisor must reach
+-- the demand of the certificate where nets have the spreads by their choices
 abbrev pub demand_of : Board → Cert → ℕ
 demand_of board cert = demand_of_kind cert.kind board cert
 
--- what the bound is multiplied by, by a certificate of this kind: the sum of all weights, by hops times the
--- unit
+-- the divisor of a certificate of this kind: by shares the sum of all weights, by hops the unit times that sum
 abbrev pub divisor_of_kind : CertKind → (weights : List ℕ) → ℕ
 divisor_of_kind Share weights = sum weights
 divisor_of_kind (Hop unit) weights = unit * sum weights
 
--- what the bound is multiplied by
+-- the divisor of the certificate
 abbrev pub divisor_of : Cert → ℕ
 divisor_of cert = divisor_of_kind cert.kind cert.weights
 

@@ -1,12 +1,13 @@
 -- What a text says: a certificate for the board, or the first refusal.
 use Rattle.std.specs.Prelude.{ℕ, zero, suc, ◌^◌, ◌==◌, ◌&&◌, ◌||◌, nat_lt, if◌then◌else◌, Bool, true, false, List, [], ◌∷◌, length, replicate, Result, Ok}
 use Rattle.tdm_problem.specs.Board.{Board}
+use Rattle.tdm_problem.specs.Limits.{most_weight}
 use Rattle.tdm_lines.specs.Lines.{Line, lines, line_after}
 use Rattle.tdm_lines.specs.Refusals.{refused, ◌>>=◌, next_line as next_of}
 use Rattle.bound_cert.specs.declared.certificate.CertKind.{CertKind}
 use Rattle.bound_cert.specs.declared.certificate.CertKind.TheVariants.{Share, Hop}
 use Rattle.bound_cert.specs.declared.header.Header.{Header}
-use Rattle.bound_cert.specs.Limits.{most_weight, most_length, most_unit, most_potentials, most_potential_value}
+use Rattle.bound_cert.specs.Limits.{most_length, most_unit, most_potentials, most_potential_value}
 use Rattle.bound_cert.specs.declared.refusal.CertTextKind.{CertTextKind}
 use Rattle.bound_cert.specs.declared.refusal.CertTextKind.TheVariants.{NoHeader, WrongCount, BadVersion, BadKind, BadUnit, CountLimit, WeightLimit, LengthLimit, UnknownPotential, MissingLine, ExtraLine, TooLong}
 use Rattle.bound_cert.specs.CertKinds.{CertRefusal, of_token}
@@ -31,7 +32,8 @@ abbrev pub grows_said : (line version : ℕ) → Result Bool CertRefusal
 grows_said line version =
     if version == 1 then Ok false else (if version == 4 then Ok true else refused BadVersion line)
 
--- how many potentials there are: none where nets grow, and where they would have no value
+-- how many potentials there are: at most the limit, and none where nets grow or where there is no FPGA for a
+-- potential to have a value at
 abbrev pub count_said : (grows : Bool) → (fpgas line count : ℕ) → Result ℕ CertRefusal
 count_said grows fpgas line count =
     if nat_lt most_potentials count || ((grows || fpgas == 0) && nat_lt 0 count) then refused CountLimit line

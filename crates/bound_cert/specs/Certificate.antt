@@ -1,9 +1,10 @@
 -- What a certificate says of a board.
 use Rattle.std.specs.Prelude.{◌≡◌, ℕ, Bool, true, ◌<◌, ◌≤◌, List, [], length, slice_index_or, All}
 use Rattle.tdm_problem.specs.Board.{Board}
+use Rattle.tdm_problem.specs.Limits.{most_weight}
 use Rattle.bound_cert.specs.declared.certificate.CertKind.{CertKind}
 use Rattle.bound_cert.specs.declared.certificate.CertKind.TheVariants.{Share, Hop}
-use Rattle.bound_cert.specs.Limits.{most_weight, most_length, most_unit, most_potentials, most_potential_value}
+use Rattle.bound_cert.specs.Limits.{most_length, most_unit, most_potentials, most_potential_value}
 
 -- a kind, whether the spread of a net is its growth, the weight of each group, the length of each wire, the
 -- potentials, and for each net which of them it chooses: 0 for none, else the potential's number plus 1
@@ -20,7 +21,7 @@ abbrev pub HasUnit : CertKind → Type 0
 HasUnit Share = Unit {0}
 HasUnit (Hop unit) = (0 < unit) × (unit ≤ most_unit)
 
--- the lengths are as the kind has them: any, or each of them the unit
+-- the lengths are as the kind has them: by shares each within the limit, by hops each of them the unit
 abbrev pub HasLengths : CertKind → List ℕ → Type 0
 HasLengths Share lengths = All (λ l. l ≤ most_length) lengths
 HasLengths (Hop unit) lengths = (0 < unit) × (unit ≤ most_unit) × All (λ l. l ≡ unit) lengths

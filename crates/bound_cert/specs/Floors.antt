@@ -9,7 +9,7 @@ use Rattle.bound_cert.specs.Limits.{uniform_weight}
 use Rattle.bound_cert.specs.Bound.{least_even}
 use Rattle.bound_cert.specs.Depths.{AreDepths, depth_of, group_depth}
 
--- twice the depths of the nets of a group, where they are the most; 0 without groups
+-- twice the sum of the depths of a group's nets, of the group where it is largest; 0 without groups
 abbrev pub hop_floor : Board → (depths : List ℕ) → ℕ
 hop_floor board depths = largest (map (λ group. 2 * group_depth depths group) board.groups)
 
@@ -21,11 +21,11 @@ holders_of board n = count_by (λ group. list_any (λ m. m == n) group) board.gr
 abbrev pub uniform_root : Board → (n : ℕ) → ℕ
 uniform_root board n = root_of (uniform_weight * holders_of board n)
 
--- the depths of all nets, by the roots of their weights
+-- the sum over all nets of the depth times the root of the weight
 abbrev pub rooted_depths : Board → (depths : List ℕ) → ℕ
 rooted_depths board depths = sum_below (length board.nets) (λ n. uniform_root board n * depth_of depths n)
 
--- a whole number of parts, rounded down; 0 without parts
+-- one of so many equal parts of a number, rounded down; 0 without parts
 abbrev pub part_of : (whole parts : ℕ) → ℕ
 part_of whole zero = 0
 part_of whole (suc p) = whole / suc p

@@ -6,7 +6,8 @@ use Rattle.tdm_problem.specs.Walk.{Joins, IsConnectable}
 use Rattle.tdm_problem.specs.Legal.{terminals_of}
 use Rattle.shortest_forest.specs.Arcs.{Arcs, IsArcWalk, both_ways}
 
--- one of the live FPGAs is so far from FPGA x over the rests of the arcs, and none is nearer
+-- of the live FPGAs, which are the root and those that are still to grow, one is so far from FPGA x over the
+-- rests of the arcs, and none is nearer
 pub record IsReach (board : Board) (rests : Arcs) (x : ℕ) (live : List ℕ) (reach : ℕ) : Type 0 where
   pub nearest : ℕ
   pub listed : Contains live nearest
@@ -33,8 +34,8 @@ GrowOver board root (x ∷ more) rests growth =
     × ((heights : ℕ → ℕ) × ((f : ℕ) → IsHeight board rests x reach f (heights f))
     × ((rest : ℕ) × GrowOver board root more (worn rests heights) rest × (growth ≡ reach + rest)))
 
--- so much do these FPGAs grow over wires of these lengths: the first is the root and the others grow in
--- order, or all wires of the board do not join them and they do not grow
+-- so much do these FPGAs grow over wires of these lengths: where the wires of the board join them, the first is
+-- the root and the others grow in order; where they do not, the FPGAs grow by 0
 abbrev pub IsGrowth : Board → (wire_length : ℕ → ℕ) → List ℕ → (growth : ℕ) → Type 0
 IsGrowth board wire_length [] growth = growth ≡ 0
 IsGrowth board wire_length (root ∷ growing) growth =

@@ -1,10 +1,6 @@
 -- How large the numbers of a certificate may be.
 use Rattle.std.specs.Prelude.{ℕ, ◌-◌, ◌^◌}
 
--- the largest weight of a group
-abbrev pub most_weight : ℕ
-most_weight = 2 ^ 40
-
 -- the largest length of a wire
 abbrev pub most_length : ℕ
 most_length = 2 ^ 48

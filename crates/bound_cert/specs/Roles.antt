@@ -16,7 +16,8 @@ use Rattle.bound_cert.specs.declared.state.Sizes.{Sizes}
 use Rattle.bound_cert.specs.Certificate.{Cert, HasLengths, IsPotential}
 use Rattle.tdm_lines.specs.Refusals.{line_said as said_of_line, ◌>>=◌}
 use Rattle.bound_cert.specs.CertReading.{header_said, number_said, potential_said, line_from, section_from, lengths_from, choices_from, unless_more}
-use Rattle.bound_cert.specs.Limits.{most_weight, most_length, most_potentials, most_potential_value}
+use Rattle.tdm_problem.specs.Limits.{most_weight}
+use Rattle.bound_cert.specs.Limits.{most_length, most_potentials, most_potential_value}
 
 -- what line n says, by what its numbers say
 abbrev pub line_said : {A : Type 0} → (ℕ → List ℕ → Result A CertRefusal) → ℕ → Option TokenFault → List ℕ

@@ -2,7 +2,8 @@
 ghost use Rattle.std.specs.Prelude.{◌≡◌, true, ◌<◌, ◌≤◌, length, slice_get, slice_index_or, All, Some};
 ghost use Rattle.bound_cert.specs.Certificate.{Cert, IsCert, IsPotential, HasLengths, weight_of, length_of, potential_of, choice_of};
 ghost use Rattle.bound_cert.specs.CertText.{listed_lengths, listed_choices};
-ghost use Rattle.bound_cert.specs.Limits.{most_weight, most_length, most_potentials};
+ghost use Rattle.tdm_problem.specs.Limits.{most_weight};
+ghost use Rattle.bound_cert.specs.Limits.{most_length, most_potentials};
 
 use crate::potential::Potential;
 use std::marker::Model;

@@ -2,7 +2,8 @@
 ghost use Rattle.std.specs.Prelude.{◌≡◌, ◌<◌, ◌≤◌, length, All, IfOk};
 ghost use Rattle.bound_cert.specs.declared.certificate.CertKind.TheVariants.{Share};
 ghost use Rattle.bound_cert.specs.Certificate.{IsCert, IsCertFor};
-ghost use Rattle.bound_cert.specs.Limits.{most_weight, most_length};
+ghost use Rattle.tdm_problem.specs.Limits.{most_weight};
+ghost use Rattle.bound_cert.specs.Limits.{most_length};
 ghost use Rattle.bound_cert.specs.Makers.{growing_cert, group_growing_cert};
 ghost use Rattle.bound_cert.specs.Valid.{IsValid};
 

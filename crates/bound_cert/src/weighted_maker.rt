@@ -2,8 +2,9 @@
 ghost use Rattle.std.specs.Prelude.{◌≡◌, ◌<◌, ◌≤◌, ◌^◌, ℕ, length, slice_index_or, sum_by, All, IfOk};
 ghost use Rattle.tdm_problem.specs.Board.{Board};
 ghost use Rattle.tdm_problem.specs.Legal.{AllConnectable};
+ghost use Rattle.tdm_problem.specs.Limits.{most_weight};
 ghost use Rattle.board_graph.specs.Graph.{graph_of};
-ghost use Rattle.bound_cert.specs.Limits.{most_length, most_potential_value, most_potential_values, most_weight};
+ghost use Rattle.bound_cert.specs.Limits.{most_length, most_potential_value, most_potential_values};
 ghost use Rattle.bound_cert.specs.Certificate.{IsCert, IsCertFor};
 ghost use Rattle.bound_cert.specs.Valid.{IsValid};
 ghost use Rattle.bound_cert.specs.Bound.{bound_of};

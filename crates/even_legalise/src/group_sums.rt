@@ -1,5 +1,6 @@
 //! The sums of the groups in the solution that shares give, without that solution.
 ghost use Rattle.std.specs.Prelude.{◌≡◌, ◌<◌, ◌≤◌, ◌*◌, ◌^◌, max, length, map, slice_index, sum, sum_by, All, IfOk};
+ghost use Rattle.tdm_problem.specs.Limits.{most_number};
 ghost use Rattle.tdm_problem.specs.Routing.{ratios_of};
 ghost use Rattle.tdm_problem.specs.Trees.{AreTreesFor, HasRisingRows};
 ghost use Rattle.tdm_problem.specs.Value.{group_sum};
@@ -24,7 +25,7 @@ pub fn shared_sums(
 ) -> Result<Vec<u128>, AllocError>
     requires trees_for { AreTreesFor problem.now trees.now }
     requires paired { length s.now ≡ length problem.now.nets }
-    requires small { All (λ number. number ≤ 2 ^ 30) s.now }
+    requires small { All (λ number. number ≤ most_number) s.now }
     ensures { IfOk result (λ sums. sums.items
         ≡ map (group_sum (shared_routing problem.now trees.now s.now)) problem.now.groups) }
 {

@@ -1,5 +1,6 @@
 //! The solution that shares give.
 ghost use Rattle.std.specs.Prelude.{◌≡◌, ◌<◌, ◌≤◌, ◌*◌, ◌^◌, max, length, map, slice_index, All, IfOk, OnOk};
+ghost use Rattle.tdm_problem.specs.Limits.{most_number};
 ghost use Rattle.tdm_problem.specs.declared.solution.WireUse.{WireUse};
 ghost use Rattle.tdm_problem.specs.Routing.{ratios_of, HasRisingWires};
 ghost use Rattle.tdm_problem.specs.Trees.{AreTreesFor, HasRisingRows};
@@ -28,7 +29,7 @@ pub fn legalise(
     requires trees_for { AreTreesFor problem.now trees.now }
     requires joined { JoinsEachNet problem.now trees.now }
     requires paired { length s.now ≡ length problem.now.nets }
-    requires small { All (λ number. number ≤ 2 ^ 30) s.now }
+    requires small { All (λ number. number ≤ most_number) s.now }
     ensures ratios { IfOk result (λ solution. solution ≡ shared_routing problem.now trees.now s.now) }
     ensures legal { IfOk result (λ solution. IsLegal problem.now solution) }
     ensures small { IfOk result (λ solution. All

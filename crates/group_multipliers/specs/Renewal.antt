@@ -11,8 +11,7 @@ abbrev pub pulls : (weights sums : List ℕ) → List ℕ
 pulls weights sums = map (λ group. pull (largest sums) group.0 group.1) (zip weights sums)
 
 -- the weight for a pull: one, and of the range that is left up to 2^40 the same part as the pull is of the
--- largest
--- pull, rounded down
+-- largest pull, rounded down
 abbrev pub weight_for : (strongest : ℕ) → (pull : ℕ) → ℕ
 weight_for strongest pull = 1 + pull * (2 ^ 40 - 1) / strongest
 

@@ -1,5 +1,6 @@
 //! New weights from old ones: the larger the sum of a group, the more it weighs.
 ghost use Rattle.std.specs.Prelude.{◌≡◌, ◌≤◌, ◌<◌, ◌^◌, length, map, All, Contains, IfOk};
+ghost use Rattle.tdm_problem.specs.Limits.{most_weight};
 ghost use Rattle.tdm_problem.specs.Value.{largest};
 ghost use Rattle.group_multipliers.specs.Renewal.{pull, pulls, weight_for, renewed};
 
@@ -20,12 +21,12 @@ const MAX_WEIGHT: u128 = 1 << 40;
 pub fn next_weights(alloc: Global, weights: &[u64], sums: &[u128]) -> Result<Vec<u64>, AllocError>
     requires paired { length sums.now ≡ length weights.now }
     requires positive { All (λ weight. 1 ≤ weight) weights.now }
-    requires limited { All (λ weight. weight ≤ 2 ^ 40) weights.now }
+    requires limited { All (λ weight. weight ≤ most_weight) weights.now }
     requires small { All (λ total. total ≤ 2 ^ 87) sums.now }
     requires some { 0 < largest sums.now }
     ensures value { IfOk result (λ renewal. renewal.items ≡ renewed weights.now sums.now) }
     ensures positive { IfOk result (λ renewal. All (λ weight. 1 ≤ weight) renewal.items) }
-    ensures limited { IfOk result (λ renewal. All (λ weight. weight ≤ 2 ^ 40) renewal.items) }
+    ensures limited { IfOk result (λ renewal. All (λ weight. weight ≤ most_weight) renewal.items) }
 {
     let mut renewal = pulls_of(alloc, weights, sums, largest_sum(sums))?;
     let strongest = largest_pull(&renewal);

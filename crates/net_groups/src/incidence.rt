@@ -1,6 +1,7 @@
 //! Which groups hold each net.
 ghost use Rattle.std.specs.Prelude.{◌≡◌, ℕ, ◌<◌, ◌≤◌, ◌^◌, [], length, map, slice_get, slice_index, slice_index_or, All, Some, IfOk};
 ghost use Rattle.std.specs.List.Sorted.{IsStrictlyIncreasing};
+ghost use Rattle.tdm_problem.specs.Limits.{most_weight};
 ghost use Rattle.tdm_problem.specs.Board.{Board, IsBoard};
 ghost use Rattle.tdm_problem.specs.Value.{group_sum};
 ghost use Rattle.tdm_problem.specs.Weights.{net_weight};
@@ -72,7 +73,7 @@ impl Incidence {
     /// error is want of memory.
     pub fn weights_of(&self, alloc: Global, weights: &[u64]) -> Result<Vec<u64>, AllocError>
         requires count { length weights.now ≡ self.now.groups }
-        requires small { All (λ w. w ≤ 2 ^ 40) weights.now }
+        requires small { All (λ w. w ≤ most_weight) weights.now }
         ensures count { IfOk result (λ sums. length sums.items ≡ length self.now.of_nets) }
         ensures each { IfOk result (λ sums. (n : ℕ) → n < length self.now.of_nets
             → slice_index sums.items n ≡ weight_of self.now weights.now n) }

@@ -1,6 +1,7 @@
 //! Shares in proportion to numbers, none of them too small.
 ghost use Rattle.std.specs.Prelude.{◌≡◌, ◌≤◌, ◌<◌, ◌^◌, max, length, sum_by, All, IfOk};
 ghost use Rattle.std.specs.Int.{div_ceil};
+ghost use Rattle.tdm_problem.specs.Limits.{most_nets, most_number};
 ghost use Rattle.tdm_problem.specs.Value.{largest};
 ghost use Rattle.ratio_shares.specs.Shares.{least_claim, share_for, shares_of};
 
@@ -15,8 +16,8 @@ use std::alloc::{AllocError, Global};
 /// There are 1 to 2^20 numbers of at most 2^30, and 1 to 1,024 lanes. The only error is want of memory.
 pub fn shares(alloc: Global, s: &[u64], lanes: u64) -> Result<Vec<u128>, AllocError>
     requires some { 1 ≤ length s.now }
-    requires few { length s.now ≤ 2 ^ 20 }
-    requires small { All (λ number. number ≤ 2 ^ 30) s.now }
+    requires few { length s.now ≤ most_nets }
+    requires small { All (λ number. number ≤ most_number) s.now }
     requires lanes_there { 1 ≤ lanes }
     requires lanes_few { lanes ≤ 1024 }
     ensures { IfOk result (λ all. all.items ≡ shares_of s.now lanes) }

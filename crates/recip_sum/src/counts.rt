@@ -4,6 +4,7 @@ ghost use Rattle.std.specs.Prelude.{◌≡◌, ℕ, ◌+◌, ◌*◌, ◌^◌, �
 ghost use Rattle.std.specs.Ordering.{nat_cmp};
 ghost use Rattle.std.specs.FinMap as map;
 ghost use Rattle.std.specs.BTreeMap.{btree_map_len, insert_entry, IsOrdered, IsUnchanged, Updates};
+ghost use Rattle.tdm_problem.specs.Limits.{most_nets};
 ghost use Rattle.tdm_problem.specs.Fit.{FitsLanes};
 ghost use Rattle.recip_sum.specs.Counts.{count_of, items, with_item, without_item};
 ghost use Rattle.recip_sum.specs.Items.{SameReciprocals, counted, items_of, one_less};
@@ -92,7 +93,7 @@ impl Counts {
     /// The only error is want of memory, and it leaves the items as they were.
     pub fn add(&mut self, ratio: u32) -> Result<(), AllocError>
         requires positive { 0 < ratio }
-        requires few { length (items self.old) < 2 ^ 20 }
+        requires few { length (items self.old) < most_nets }
         ensures ok { OnOk result (self.new ≡ with_item self.old ratio) }
         ensures same { OnOk result (SameReciprocals (items self.new) (ratio ∷ items self.old)) }
         ensures err { OnErr result (self.new ≡ self.old) }
@@ -109,7 +110,7 @@ impl Counts {
         requires there { 0 < count_of self.old ratio }
         ensures less { self.new ≡ without_item self.old ratio }
         ensures same { SameReciprocals (ratio ∷ items self.new) (items self.old) }
-        ensures room { length (items self.new) < 2 ^ 20 }
+        ensures room { length (items self.new) < most_nets }
     {
         count_one_less(&mut self.counts, ratio);
         self.total -= 1;
@@ -158,7 +159,7 @@ impl Counts {
     /// The halves of the ratios are bisected, and a step is one division. A ratio that is tried takes one
     /// step, and more only where the reciprocals rounded down do not tell.
     pub fn least_even<L: Ledger>(&mut self, lanes: u64, steps: &mut Steps<L>) -> u32
-        requires few { length (items self.old) < 2 ^ 20 }
+        requires few { length (items self.old) < most_nets }
         requires room { FitsLanes (4294967294 ∷ items self.old) lanes }
         ensures same { self.new ≡ self.old }
         ensures least { IsLeastEven (items self.old) lanes result }
@@ -176,7 +177,7 @@ impl Counts {
 
     /// `least_even` for a caller that counts no steps.
     pub fn least_ratio(&mut self, lanes: u64) -> u32
-        requires few { length (items self.old) < 2 ^ 20 }
+        requires few { length (items self.old) < most_nets }
         requires room { FitsLanes (4294967294 ∷ items self.old) lanes }
         ensures same { self.new ≡ self.old }
         ensures least { IsLeastEven (items self.old) lanes result }

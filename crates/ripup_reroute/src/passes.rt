@@ -1,6 +1,7 @@
 //! Passes of turns.
 ghost use Rattle.std.specs.Prelude.{◌≡◌, ℕ, ◌<◌, ◌≤◌, ◌^◌, true, false, length, All, IfOk, OnOk};
 ghost use Rattle.board_graph.specs.Graph.{board_of, graph_of};
+ghost use Rattle.tdm_problem.specs.Limits.{most_number};
 ghost use Rattle.tdm_problem.specs.Board.{IsBoard};
 ghost use Rattle.tdm_problem.specs.Loads.{load_cost};
 ghost use Rattle.ripup_reroute.specs.Bounds.{IsTableAt};
@@ -52,7 +53,7 @@ pub fn reroute(
     requires graph { graph.now ≡ graph_of problem.now }
     requires trees { AreMinimalTrees problem.now trees.old }
     requires count { length s.now ≡ length problem.now.nets }
-    requires small { All (λ x. x ≤ 2 ^ 30) s.now }
+    requires small { All (λ x. x ≤ most_number) s.now }
     requires there { All (λ n. n < length problem.now.nets) picks.now }
     ensures rerouted { AreRerouted problem.now s.now picks.now trees.old trees.new }
     ensures passes { IfOk result (λ r. ArePasses problem.now s.now picks.now passes trees.old trees.new) }
@@ -76,7 +77,7 @@ pub fn reroute_with(
     requires graph { graph.now ≡ graph_of problem.now }
     requires trees { AreMinimalTrees problem.now trees.old }
     requires count { length s.now ≡ length problem.now.nets }
-    requires small { All (λ x. x ≤ 2 ^ 30) s.now }
+    requires small { All (λ x. x ≤ most_number) s.now }
     requires there { All (λ n. n < length problem.now.nets) picks.now }
     ensures rerouted { AreRerouted problem.now s.now picks.now trees.old trees.new }
     ensures passes { IfOk result (λ r. ArePasses problem.now s.now picks.now passes trees.old trees.new) }

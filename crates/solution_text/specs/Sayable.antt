@@ -3,7 +3,7 @@ use Rattle.std.specs.Prelude.{◌<◌, ◌^◌, All}
 use Rattle.tdm_problem.specs.Board.{Board, IsBoard}
 use Rattle.tdm_problem.specs.Routing.{Routing, ratios_of, IsFor, HasRisingWires}
 
--- a solution for the board, whose wires rise and whose ratios have 32 bits
+-- a solution for a board within its limits; the wires of each net rise, and ratios are below 2^32
 pub record IsSayable (board : Board) (routing : Routing) : Type 0 where
   pub limits : IsBoard board
   pub is_for : IsFor board routing

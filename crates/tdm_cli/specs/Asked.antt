@@ -33,7 +33,8 @@ FileFor kind Then (Some bytes) answer = SaidFor kind Then (kind.says bytes) answ
 abbrev pub SomeUnconnectable : Board → Type 0
 SomeUnconnectable board = (n : ℕ) × (n < length board.nets) × ¬ IsConnectable board (terminals_of board n)
 
--- a board is routed where its nets can be joined and its baseline is within the limit on uses
+-- what routing a board comes to: some net cannot be joined, or the baseline is over the limit on uses, or
+-- neither, which is Ok
 abbrev pub RoutingFor : Board → Status → Type 0
 RoutingFor board status.Unconnectable = SomeUnconnectable board
 RoutingFor board status.UseLimit = IsOverUseLimit board
@@ -52,7 +53,7 @@ JudgingFor board routing = YesOrNo (IsLegal board routing) status.Ok status.Ille
 abbrev pub CheckingFor : Board → Cert → Status → Type 0
 CheckingFor board cert = YesOrNo (IsValid board cert) status.Ok status.CertRejected
 
--- a board whose nets can be joined is routed where its baseline is within the limit on uses
+-- the same of a board whose nets can be joined: the baseline is over the limit on uses, or it is Ok
 abbrev pub ShowingFor : Board → Status → Type 0
 ShowingFor board status.UseLimit = IsOverUseLimit board
 ShowingFor board status.Ok = IsWithinUseLimit board

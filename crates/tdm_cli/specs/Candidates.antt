@@ -1,7 +1,8 @@
 -- What the certificates by growth of rounds are made of.
 use Rattle.std.specs.Prelude.{◌≡◌, ◌≤◌, List, length, All, Option, IfSome, MatchOption}
 use Rattle.tdm_problem.specs.Board.{Board}
-use Rattle.bound_cert.specs.Limits.{most_weight, most_length}
+use Rattle.tdm_problem.specs.Limits.{most_weight}
+use Rattle.bound_cert.specs.Limits.{most_length}
 use Rattle.tdm_cli.specs.declared.candidates.Candidate.{Candidate}
 use Rattle.tdm_cli.specs.declared.candidates.Candidates.{Candidates}
 use Rattle.tdm_cli.specs.Rounds.{Round, round_lengths, IsLastFit}

@@ -24,13 +24,13 @@ pub record IsAsCalled {D : Type 0} (counts : D → Counts) (steady : D → Type 
       → ¬ ReadingFailed counts steady slot before after)
       → ¬ WritingFailed counts steady before after → (answer ≡ called) ⊎ (answer ≡ status.OutOfMemory)
 
--- no file was changed, and no output touched
+-- no file was changed, and every output is as it was
 pub record WritesNothing (before after : Seen) : Type 0 where
   pub files : files_of after ≡ files_of before
   pub outputs : KeepsOutputs before after
 
--- only the inputs and outputs of the request were touched; no file was changed where it has no outputs, and
--- nothing written where the answer is another than Ok, WriteFault and OutOfMemory
+-- all inputs and outputs but those of the request are as they were; no file was changed where it has no
+-- outputs, and nothing written where the answer is another than Ok, WriteFault and OutOfMemory
 pub record TouchesOnly (request : Request) (before after : Seen) (answer : Status) : Type 0 where
   pub inputs : KeepsInputsBut 0 (length (inputs_of request)) before after
   pub outputs : KeepsOutputsBehind (length (outputs_of request)) before after

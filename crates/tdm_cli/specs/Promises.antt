@@ -49,8 +49,9 @@ abbrev pub Certifies : Files → Name → Board → Cert → Type 0
 Certifies files name board cert = (bytes : Bytes) × (get files name ≡ Some bytes)
     × (cert_of board bytes ≡ Ok cert)
 
--- a solution of the board, found by so many rounds, is written to one file and a certificate to another, both
--- read back, and their value and bound are said in such a report
+-- a legal and tight solution of the board with minimal trees is written to one file and a valid certificate to
+-- another; so many rounds have no smaller value and no larger bound; both texts read back, and value and bound
+-- are said in such a report
 pub record IsWritten (board : Board) (files : Files) (solution cert : Name) (count : ℕ)
     (report : (value bound : ℕ) → Bytes) (before after : Seen) : Type 0 where
   pub routing : Routing
@@ -75,7 +76,7 @@ pub record IsWritten (board : Board) (files : Files) (solution cert : Name) (cou
   pub told : said_of after
       ≡ option_map (λ s. s ++ report (value_of board routing) bound) (said_of before)
 
--- a solution of the board in one file, found by so many rounds, and a certificate are written
+-- the same of the board that one file describes
 pub record IsRouted (files : Files) (name solution cert : Name) (count : ℕ)
     (before after : Seen) : Type 0 where
   pub board : Board
@@ -144,8 +145,8 @@ IsWorth (demo fpgas nets groups solution cert) files before after status.Ok =
     (demo_report (generated fpgas nets groups)) before after
 IsWorth request files before after answer = Unit {0}
 
--- no legal solution of a board has a value below the bound of a certificate that is accepted for it, whoever
--- made it
+-- no legal solution of a board has a value below the bound of a valid certificate for it, where the texts of
+-- both are accepted, whoever made them
 abbrev pub BoundsHold : Type 0
 BoundsHold = (board_text cert_text : Bytes) (board : Board) (cert : Cert) (bound : ℕ)
     → board_of board_text ≡ Ok board → cert_of board cert_text ≡ Ok cert → IsValid board cert

@@ -21,7 +21,7 @@ abbrev pub IsBaselineValue : Board → ℕ → Type 0
 IsBaselineValue board value = (trees : List (List ℕ)) × AreBaseTrees board trees
     × (value ≡ value_of board (uniform_routing board trees))
 
--- a solution that may be written, and a certificate that may be, with its bound
+-- what `route` may write: a legal solution and a valid certificate that texts can say, with its bound
 pub record IsRouting (board : Board) (routing : Routing) (cert : Cert) (bound : ℕ) : Type 0 where
   pub for_board : IsFor board routing
   pub legal : IsLegal board routing

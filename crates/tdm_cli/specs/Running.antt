@@ -1,7 +1,7 @@
 -- Rounds on their way: what one of them did, and what so many come to.
 use Rattle.std.specs.Prelude.{◌≡◌, ℕ, ◌≤◌, List, length, All, Option, MatchOption}
 use Rattle.tdm_problem.specs.Board.{Board}
-use Rattle.bound_cert.specs.Limits.{most_weight}
+use Rattle.tdm_problem.specs.Limits.{most_weight}
 use Rattle.tdm_cli.specs.declared.candidates.Candidate.{Candidate}
 use Rattle.tdm_cli.specs.Rounds.{Round, Reroutes, FitsUses, next_of, AreRounds, IsMet}
 use Rattle.tdm_cli.specs.Candidates.{IsOfRound, IsOfLast}

@@ -29,7 +29,7 @@ AskRounds (word ∷ []) rounds = IsNumber most_rounds word rounds
 AskRounds _ rounds = ⊥
 
 -- the words are `route BOARD SOLUTION CERT`, or these and a number of rounds, each name of at least one byte,
--- and the outputs two files
+-- and the outputs have two different names
 pub record IsRoute (words : List (List ℕ)) (board solution cert : List ℕ) (rounds : ℕ) : Type 0 where
   pub further : List (List ℕ)
   pub words_are : words ≡ codes "route" ∷ board ∷ solution ∷ cert ∷ further
@@ -68,7 +68,7 @@ pub record IsGen (words : List (List ℕ)) (fpgas nets groups : ℕ) (board : Li
 abbrev pub IsNoGen : List (List ℕ) → Type 0
 IsNoGen words = (fpgas nets groups : ℕ) (board : List ℕ) → ¬ IsGen words fpgas nets groups board
 
--- the words are `demo F N G SOLUTION CERT`, and the outputs two files
+-- the words are `demo F N G SOLUTION CERT`, and the outputs have two different names
 pub record IsDemo (words : List (List ℕ)) (fpgas nets groups : ℕ) (solution cert : List ℕ) : Type 0 where
   pub words_are : words ≡ codes "demo" ∷ digits fpgas ∷ digits nets ∷ digits groups ∷ solution ∷ cert ∷ []
   pub sizes : AreSizes fpgas nets groups

@@ -4,7 +4,7 @@ ghost use Rattle.std.specs.List.{range_with_len};
 ghost use Rattle.tdm_problem.specs.Board.{Board};
 ghost use Rattle.tdm_problem.specs.Roots.{root_of};
 ghost use Rattle.tdm_problem.specs.Trees.{HasRisingRows};
-ghost use Rattle.bound_cert.specs.Limits.{most_weight};
+ghost use Rattle.tdm_problem.specs.Limits.{most_weight};
 ghost use Rattle.net_groups.specs.Incidence.{IsIncidenceOf};
 ghost use Rattle.tdm_cli.specs.Baseline.{most_uses};
 ghost use Rattle.tdm_cli.specs.Rounds.{AreRoots};

@@ -56,12 +56,12 @@ fn run_words<D: Desk>(alloc: Global, desk: &mut D, words: &[String]) -> Status
 /// answered Ok or want of memory where neither reading nor writing fails. At Ok one file holds a legal
 /// solution and another a valid certificate, with the value and the bound that were said; and no legal
 /// solution, of any size and by whomever, has a value below that bound, nor below the bound of any valid
-/// certificate that is accepted for the board.
+/// certificate whose text is accepted for that of the board.
 pub fn tdm<D: Desk>(alloc: Global, desk: &mut D, words: &[String]) -> Status
     // The headline. The answer is the status that the files call for, unless a fault of the outside or want
     // of memory comes in. At Ok routed solutions are legal and tight, certificates valid, verdicts right, and
-    // what was said is true. No legal solution has a value below the bound of a certificate that is accepted
-    // for its board, whatever is run.
+    // what was said is true. No legal solution has a value below the bound of a valid certificate whose text
+    // is accepted for that of its board, whatever is run.
     ensures answers { (request : Request) (files : Files) → Asks (map string_bytes words.now) request
         → files_of (D.seen desk.old) ≡ Some files
         → IsAsCalled D.counts D.steady request files desk.old desk.new result }

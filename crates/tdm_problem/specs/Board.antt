@@ -22,7 +22,8 @@ pub record IsRowBelow (limit : ℕ) (row : List ℕ) : Type 0 where
   pub distinct : AllPairs (λ x y. x ≢ y) row
   pub below : All (λ x. x < limit) row
 
--- the board keeps to the limits, and all its numbers name something
+-- the board keeps to the limits; a wire joins two different FPGAs of it, a net lists FPGAs of it and a group
+-- nets of it, each at least one and none twice
 pub record IsBoard (board : Board) : Type 0 where
   pub fpga_limit : board.fpgas ≤ most_fpgas
   pub wire_limit : length board.wires ≤ most_wires

@@ -4,7 +4,7 @@ use Rattle.tdm_problem.specs.Routing.{Routing, uses_of, wires_of, ratios_of, rat
 use Rattle.tdm_problem.specs.Walk.{Joins, IsConnectable}
 use Rattle.tdm_problem.specs.Fit.{FitsLanes}
 
--- how many lanes wire e has, which share its reciprocals
+-- how many lanes wire e has, which is what the reciprocals on it may sum to: 1 on every wire
 abbrev pub lanes_of : Board → ℕ → ℕ
 lanes_of board e = 1
 
@@ -24,7 +24,8 @@ AllConnectable board = (n : ℕ) → n < length board.nets → IsConnectable boa
 abbrev pub IsEvenRatio : ℕ → Type 0
 IsEvenRatio ratio = (half : ℕ) × (0 < half) × (ratio ≡ 2 * half)
 
--- the wires of each net join its FPGAs, each ratio is positive and even, and on each wire the ratios fit
+-- the wires of each net join its FPGAs, each ratio is positive and even, and on each wire the reciprocals of
+-- the ratios sum to at most its lanes
 pub record IsLegal (board : Board) (routing : Routing) : Type 0 where
   pub is_for : IsFor board routing
   pub joined : (n : ℕ) → n < length board.nets

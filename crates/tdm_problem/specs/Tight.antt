@@ -12,7 +12,7 @@ wire_at routing n place = slice_index (wires_of (uses_of routing n)) place
 abbrev pub ratio_at : Routing → (n place : ℕ) → ℕ
 ratio_at routing n place = slice_index (ratios_of (uses_of routing n)) place
 
--- with that ratio lowered by 2 the ratios on the wire fit no more
+-- where that ratio is above 2: lowered by 2, the ratios on its wire do not fit
 abbrev pub IsTightAt : Board → Routing → (n place : ℕ) → Type 0
 IsTightAt board routing n place = 2 < ratio_at routing n place
     → ¬ FitsLanes (ratios_on (with_ratio routing n place (ratio_at routing n place - 2))

@@ -6,8 +6,8 @@ use Rattle.tdm_problem.specs.Routing.{Routing, uses_of, ratios_of}
 abbrev pub net_sum : Routing → ℕ → ℕ
 net_sum routing n = sum (ratios_of (uses_of routing n))
 
--- the sum of the ratios of a group's nets; on a board each net stands once in a group, since a repeat is
--- dropped there
+-- the sum of the ratios of the nets that a group lists; on a board that was read a group lists no net twice,
+-- since reading drops a repeat
 abbrev pub group_sum : Routing → List ℕ → ℕ
 group_sum routing group = sum_by (net_sum routing) group
 

@@ -6,7 +6,7 @@ use Rattle.bound_cert.specs.declared.refusal.CertTextKind.TheVariants.{WeightLim
 use Rattle.bound_cert.specs.declared.state.Role.{Role}
 use Rattle.tdm_lines.specs.Refusals.{IsFaultOf}
 use Rattle.bound_cert.specs.CertReading.{number_said}
-use Rattle.bound_cert.specs.Limits.{most_weight}
+use Rattle.tdm_problem.specs.Limits.{most_weight}
 use Rattle.bound_cert.specs.Roles.{past_weights, said_in, so_far, IsInRole}
 use Rattle.bound_cert.proofs.RoleLaws.{section-refused, section-taken, section-done}
 use Rattle.bound_cert.proofs.state.CertState.weight_line.Goals as goal
