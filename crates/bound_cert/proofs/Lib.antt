@@ -13,7 +13,6 @@ pub mod HopBound
 pub mod ShareBound
 pub mod DualBound
 pub mod OneBound
-pub mod CertWriting
 pub mod CertSize
 pub mod CertReadsBack
 pub mod SourceLaws

@@ -6,7 +6,7 @@ ghost use Rattle.std.specs.List.{flat_map};
 ghost use Rattle.tdm_desk.specs.Seen.{output_is_open, written, PrefixWritten};
 ghost use Rattle.tdm_desk.specs.Counts.{CountsFaults, CountsOnlyWriting, WritingFailed};
 ghost use Rattle.tdm_lines.specs.Written.{line_text};
-ghost use Rattle.text_writer.specs.Writing.{IsUnderWay};
+ghost use Rattle.text_writer.specs.Writing.{Adds};
 ghost use Rattle.bound_cert.specs.CertText.{version_of, number_of_kind, unit_of_kind, header_row, number_line, cert_text};
 
 use crate::certificate::{CertKind, Certificate};
@@ -30,12 +30,27 @@ pub fn write_cert<D: Desk>(desk: &mut D, slot: OutSlot, cert: &Certificate) -> R
     ensures counted { CountsFaults D.counts D.steady desk.old desk.new }
 {
     let mut pending = Pending::new();
-    put_header(desk, slot, &mut pending, cert)?;
-    put_numbers(desk, slot, &mut pending, cert.weights(), b'\n')?;
-    put_numbers(desk, slot, &mut pending, cert.listed_lengths(), b'\n')?;
-    put_potentials(desk, slot, &mut pending, cert)?;
-    put_choices(desk, slot, &mut pending, cert.listed_choices())?;
+    put_cert(desk, slot, &mut pending, cert)?;
     flush(desk, slot, &mut pending)?;
+    Ok(())
+}
+
+/// Adds all lines to the text.
+fn put_cert<D: Desk>(
+    desk: &mut D,
+    slot: OutSlot,
+    pending: &mut Pending,
+    cert: &Certificate,
+) -> Result<(), DeskFault>
+    requires { IsTrue (output_is_open slot (D.seen desk.old)) }
+    ensures { Adds D.seen D.counts D.steady slot (cert_text cert.now)
+        pending.old desk.old pending.new desk.new result }
+{
+    put_header(desk, slot, pending, cert)?;
+    put_numbers(desk, slot, pending, cert.weights(), b'\n')?;
+    put_numbers(desk, slot, pending, cert.listed_lengths(), b'\n')?;
+    put_potentials(desk, slot, pending, cert)?;
+    put_choices(desk, slot, pending, cert.listed_choices())?;
     Ok(())
 }
 
@@ -74,14 +89,8 @@ fn put_header<D: Desk>(
     cert: &Certificate,
 ) -> Result<(), DeskFault>
     requires { IsTrue (output_is_open slot (D.seen desk.old)) }
-    ensures ok { OnOk result (IsUnderWay slot (pending.old ++ line_text (header_row cert.now))
-        (D.seen desk.old) pending.new (D.seen desk.new)) }
-    ensures err { OnErr result (PrefixWritten slot (pending.old ++ line_text (header_row cert.now))
-        (D.seen desk.old) (D.seen desk.new)) }
-    ensures failed { IsErrOf result DeskFault.Failed →
-        WritingFailed D.counts D.steady desk.old desk.new }
-    ensures own { CountsOnlyWriting D.counts result desk.old desk.new }
-    ensures counted { CountsFaults D.counts D.steady desk.old desk.new }
+    ensures { Adds D.seen D.counts D.steady slot (line_text (header_row cert.now))
+        pending.old desk.old pending.new desk.new result }
 {
     let kind = cert.kind();
     let row = [
@@ -102,15 +111,8 @@ fn put_potentials<D: Desk>(
     cert: &Certificate,
 ) -> Result<(), DeskFault>
     requires { IsTrue (output_is_open slot (D.seen desk.old)) }
-    ensures ok { OnOk result (IsUnderWay slot (pending.old ++ flat_map line_text cert.now.potentials)
-        (D.seen desk.old) pending.new (D.seen desk.new)) }
-    ensures err { OnErr result (PrefixWritten slot
-        (pending.old ++ flat_map line_text cert.now.potentials)
-        (D.seen desk.old) (D.seen desk.new)) }
-    ensures failed { IsErrOf result DeskFault.Failed →
-        WritingFailed D.counts D.steady desk.old desk.new }
-    ensures own { CountsOnlyWriting D.counts result desk.old desk.new }
-    ensures counted { CountsFaults D.counts D.steady desk.old desk.new }
+    ensures { Adds D.seen D.counts D.steady slot (flat_map line_text cert.now.potentials)
+        pending.old desk.old pending.new desk.new result }
 {
     for p in 0..cert.potentials() {
         put_line(desk, slot, pending, cert.potential(p))?;
@@ -126,14 +128,8 @@ fn put_choices<D: Desk>(
     choices: &[u32],
 ) -> Result<(), DeskFault>
     requires { IsTrue (output_is_open slot (D.seen desk.old)) }
-    ensures ok { OnOk result (IsUnderWay slot (pending.old ++ flat_map number_line choices.now)
-        (D.seen desk.old) pending.new (D.seen desk.new)) }
-    ensures err { OnErr result (PrefixWritten slot (pending.old ++ flat_map number_line choices.now)
-        (D.seen desk.old) (D.seen desk.new)) }
-    ensures failed { IsErrOf result DeskFault.Failed →
-        WritingFailed D.counts D.steady desk.old desk.new }
-    ensures own { CountsOnlyWriting D.counts result desk.old desk.new }
-    ensures counted { CountsFaults D.counts D.steady desk.old desk.new }
+    ensures { Adds D.seen D.counts D.steady slot (flat_map number_line choices.now)
+        pending.old desk.old pending.new desk.new result }
 {
     for choice in choices {
         put_number(desk, slot, pending, *choice as u64, b'\n')?;

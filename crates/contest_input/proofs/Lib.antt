@@ -7,4 +7,3 @@ pub mod RoleFits
 pub mod Accepted
 pub mod ReadsBack
 pub mod Size
-pub mod Writing

@@ -6,7 +6,7 @@ ghost use Rattle.std.specs.List.{flat_map};
 ghost use Rattle.tdm_desk.specs.Seen.{output_is_open, written, PrefixWritten};
 ghost use Rattle.tdm_desk.specs.Counts.{CountsFaults, CountsOnlyWriting, WritingFailed};
 ghost use Rattle.tdm_lines.specs.Written.{line_text};
-ghost use Rattle.text_writer.specs.Writing.{numbers_then, IsUnderWay};
+ghost use Rattle.text_writer.specs.Writing.{numbers_then, Adds};
 ghost use Rattle.contest_input.specs.Canonical.{header_row, wire_line, board_text};
 
 use tdm_desk::{Desk, DeskFault, OutSlot};
@@ -31,11 +31,26 @@ pub fn write_board<D: Desk>(desk: &mut D, slot: OutSlot, problem: &Problem) -> R
     ensures counted { CountsFaults D.counts D.steady desk.old desk.new }
 {
     let mut pending = Pending::new();
-    put_header(desk, slot, &mut pending, problem)?;
-    put_wires(desk, slot, &mut pending, problem)?;
-    put_nets(desk, slot, &mut pending, problem)?;
-    put_groups(desk, slot, &mut pending, problem)?;
+    put_board(desk, slot, &mut pending, problem)?;
     flush(desk, slot, &mut pending)?;
+    Ok(())
+}
+
+/// Adds all lines to the text.
+fn put_board<D: Desk>(
+    desk: &mut D,
+    slot: OutSlot,
+    pending: &mut Pending,
+    problem: &Problem,
+) -> Result<(), DeskFault>
+    requires { IsTrue (output_is_open slot (D.seen desk.old)) }
+    ensures { Adds D.seen D.counts D.steady slot (board_text problem.now)
+        pending.old desk.old pending.new desk.new result }
+{
+    put_header(desk, slot, pending, problem)?;
+    put_wires(desk, slot, pending, problem)?;
+    put_nets(desk, slot, pending, problem)?;
+    put_groups(desk, slot, pending, problem)?;
     Ok(())
 }
 
@@ -47,14 +62,8 @@ fn put_header<D: Desk>(
     problem: &Problem,
 ) -> Result<(), DeskFault>
     requires { IsTrue (output_is_open slot (D.seen desk.old)) }
-    ensures ok { OnOk result (IsUnderWay slot (pending.old ++ line_text (header_row problem.now))
-        (D.seen desk.old) pending.new (D.seen desk.new)) }
-    ensures err { OnErr result (PrefixWritten slot (pending.old ++ line_text (header_row problem.now))
-        (D.seen desk.old) (D.seen desk.new)) }
-    ensures failed { IsErrOf result DeskFault.Failed →
-        WritingFailed D.counts D.steady desk.old desk.new }
-    ensures own { CountsOnlyWriting D.counts result desk.old desk.new }
-    ensures counted { CountsFaults D.counts D.steady desk.old desk.new }
+    ensures { Adds D.seen D.counts D.steady slot (line_text (header_row problem.now))
+        pending.old desk.old pending.new desk.new result }
 {
     let row = [
         problem.fpgas() as u64,
@@ -74,14 +83,8 @@ fn put_wire<D: Desk>(
     wire: Wire,
 ) -> Result<(), DeskFault>
     requires { IsTrue (output_is_open slot (D.seen desk.old)) }
-    ensures ok { OnOk result (IsUnderWay slot (pending.old ++ wire_line wire)
-        (D.seen desk.old) pending.new (D.seen desk.new)) }
-    ensures err { OnErr result (PrefixWritten slot (pending.old ++ wire_line wire)
-        (D.seen desk.old) (D.seen desk.new)) }
-    ensures failed { IsErrOf result DeskFault.Failed →
-        WritingFailed D.counts D.steady desk.old desk.new }
-    ensures own { CountsOnlyWriting D.counts result desk.old desk.new }
-    ensures counted { CountsFaults D.counts D.steady desk.old desk.new }
+    ensures { Adds D.seen D.counts D.steady slot (wire_line wire)
+        pending.old desk.old pending.new desk.new result }
 {
     put_line(desk, slot, pending, &[wire.a as u64, wire.b as u64])?;
     Ok(())
@@ -95,14 +98,8 @@ fn put_wires<D: Desk>(
     problem: &Problem,
 ) -> Result<(), DeskFault>
     requires { IsTrue (output_is_open slot (D.seen desk.old)) }
-    ensures ok { OnOk result (IsUnderWay slot (pending.old ++ flat_map wire_line problem.now.wires)
-        (D.seen desk.old) pending.new (D.seen desk.new)) }
-    ensures err { OnErr result (PrefixWritten slot (pending.old ++ flat_map wire_line problem.now.wires)
-        (D.seen desk.old) (D.seen desk.new)) }
-    ensures failed { IsErrOf result DeskFault.Failed →
-        WritingFailed D.counts D.steady desk.old desk.new }
-    ensures own { CountsOnlyWriting D.counts result desk.old desk.new }
-    ensures counted { CountsFaults D.counts D.steady desk.old desk.new }
+    ensures { Adds D.seen D.counts D.steady slot (flat_map wire_line problem.now.wires)
+        pending.old desk.old pending.new desk.new result }
 {
     for e in 0..problem.wires() {
         put_wire(desk, slot, pending, problem.wire(e))?;
@@ -118,14 +115,8 @@ fn put_nets<D: Desk>(
     problem: &Problem,
 ) -> Result<(), DeskFault>
     requires { IsTrue (output_is_open slot (D.seen desk.old)) }
-    ensures ok { OnOk result (IsUnderWay slot (pending.old ++ flat_map line_text problem.now.nets)
-        (D.seen desk.old) pending.new (D.seen desk.new)) }
-    ensures err { OnErr result (PrefixWritten slot (pending.old ++ flat_map line_text problem.now.nets)
-        (D.seen desk.old) (D.seen desk.new)) }
-    ensures failed { IsErrOf result DeskFault.Failed →
-        WritingFailed D.counts D.steady desk.old desk.new }
-    ensures own { CountsOnlyWriting D.counts result desk.old desk.new }
-    ensures counted { CountsFaults D.counts D.steady desk.old desk.new }
+    ensures { Adds D.seen D.counts D.steady slot (flat_map line_text problem.now.nets)
+        pending.old desk.old pending.new desk.new result }
 {
     for n in 0..problem.nets() {
         put_row(desk, slot, pending, problem.net(n))?;
@@ -141,14 +132,8 @@ fn put_groups<D: Desk>(
     problem: &Problem,
 ) -> Result<(), DeskFault>
     requires { IsTrue (output_is_open slot (D.seen desk.old)) }
-    ensures ok { OnOk result (IsUnderWay slot (pending.old ++ flat_map line_text problem.now.groups)
-        (D.seen desk.old) pending.new (D.seen desk.new)) }
-    ensures err { OnErr result (PrefixWritten slot (pending.old ++ flat_map line_text problem.now.groups)
-        (D.seen desk.old) (D.seen desk.new)) }
-    ensures failed { IsErrOf result DeskFault.Failed →
-        WritingFailed D.counts D.steady desk.old desk.new }
-    ensures own { CountsOnlyWriting D.counts result desk.old desk.new }
-    ensures counted { CountsFaults D.counts D.steady desk.old desk.new }
+    ensures { Adds D.seen D.counts D.steady slot (flat_map line_text problem.now.groups)
+        pending.old desk.old pending.new desk.new result }
 {
     for g in 0..problem.groups() {
         put_row(desk, slot, pending, problem.group(g))?;
@@ -165,14 +150,8 @@ fn put_row<D: Desk>(
 ) -> Result<(), DeskFault>
     requires open { IsTrue (output_is_open slot (D.seen desk.old)) }
     requires some { 0 < length numbers.now }
-    ensures ok { OnOk result (IsUnderWay slot (pending.old ++ line_text numbers.now)
-        (D.seen desk.old) pending.new (D.seen desk.new)) }
-    ensures err { OnErr result (PrefixWritten slot (pending.old ++ line_text numbers.now)
-        (D.seen desk.old) (D.seen desk.new)) }
-    ensures failed { IsErrOf result DeskFault.Failed →
-        WritingFailed D.counts D.steady desk.old desk.new }
-    ensures own { CountsOnlyWriting D.counts result desk.old desk.new }
-    ensures counted { CountsFaults D.counts D.steady desk.old desk.new }
+    ensures { Adds D.seen D.counts D.steady slot (line_text numbers.now)
+        pending.old desk.old pending.new desk.new result }
 {
     let last = numbers.len() - 1;
     put_numbers(desk, slot, pending, &numbers[..last])?;
@@ -188,14 +167,8 @@ fn put_numbers<D: Desk>(
     numbers: &[u32],
 ) -> Result<(), DeskFault>
     requires { IsTrue (output_is_open slot (D.seen desk.old)) }
-    ensures ok { OnOk result (IsUnderWay slot (pending.old ++ numbers_then 32 numbers.now)
-        (D.seen desk.old) pending.new (D.seen desk.new)) }
-    ensures err { OnErr result (PrefixWritten slot (pending.old ++ numbers_then 32 numbers.now)
-        (D.seen desk.old) (D.seen desk.new)) }
-    ensures failed { IsErrOf result DeskFault.Failed →
-        WritingFailed D.counts D.steady desk.old desk.new }
-    ensures own { CountsOnlyWriting D.counts result desk.old desk.new }
-    ensures counted { CountsFaults D.counts D.steady desk.old desk.new }
+    ensures { Adds D.seen D.counts D.steady slot (numbers_then 32 numbers.now)
+        pending.old desk.old pending.new desk.new result }
 {
     for number in numbers {
         put_number(desk, slot, pending, *number as u64, b' ')?;

@@ -19,15 +19,14 @@ pub record AreRerouted (board : Board) (numbers picks : List ℕ) (trees new : L
   pub unpicked : (n : ℕ) → ¬ Contains picks n → tree_of new n ≡ tree_of trees n
   pub not_above : load_cost board new numbers ≤ load_cost board trees numbers
 
--- net n gains by no tree of its own: on two FPGAs no set of wires that joins them costs less, and its tree is
--- short
+-- net n is settled: on two FPGAs no set of wires that joins them costs less, and in any case its tree is short
 pub record IsSettledFor (board : Board) (numbers : List ℕ) (n : ℕ) (trees : List (List ℕ)) : Type 0 where
   pub two : (a b : ℕ) (wires : List ℕ) → terminals_of board n ≡ a ∷ b ∷ []
       → AreWiresOf board wires → Joins board (Contains wires) (a ∷ b ∷ [])
       → load_cost board trees numbers ≤ load_cost board (slice_set trees n wires) numbers
   pub short : IsShortFor board numbers n trees
 
--- no picked net gains by a tree of its own
+-- each picked net is settled
 abbrev pub IsSettled : Board → (numbers picks : List ℕ) → (trees : List (List ℕ)) → Type 0
 IsSettled board numbers picks trees = (n : ℕ) → Contains picks n → IsSettledFor board numbers n trees
 

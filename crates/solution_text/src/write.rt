@@ -6,11 +6,11 @@ ghost use Rattle.std.specs.List.{flat_map};
 ghost use Rattle.tdm_desk.specs.Seen.{output_is_open, written, PrefixWritten};
 ghost use Rattle.tdm_desk.specs.Counts.{CountsFaults, CountsOnlyWriting, WritingFailed};
 ghost use Rattle.solution_text.specs.Text.{use_line, net_text, solution_text};
-ghost use Rattle.text_writer.specs.Writing.{number_then, IsUnderWay};
+ghost use Rattle.text_writer.specs.Writing.{Adds};
 
 use tdm_desk::{Desk, DeskFault, OutSlot};
 use tdm_problem::{Solution, WireUse};
-use text_writer::{Pending, flush, put_number};
+use text_writer::{Pending, flush, put_line, put_number};
 
 /// Adds the text of a solution to the file of an open output: for each net, in order, a line with the
 /// number of its uses, and then for each use a line with the wire and the ratio. Without nets the text
@@ -46,17 +46,10 @@ fn put_use<D: Desk>(
     used: WireUse,
 ) -> Result<(), DeskFault>
     requires { IsTrue (output_is_open slot (D.seen desk.old)) }
-    ensures ok { OnOk result (IsUnderWay slot (pending.old ++ use_line used)
-        (D.seen desk.old) pending.new (D.seen desk.new)) }
-    ensures err { OnErr result (PrefixWritten slot (pending.old ++ use_line used)
-        (D.seen desk.old) (D.seen desk.new)) }
-    ensures failed { IsErrOf result DeskFault.Failed →
-        WritingFailed D.counts D.steady desk.old desk.new }
-    ensures own { CountsOnlyWriting D.counts result desk.old desk.new }
-    ensures counted { CountsFaults D.counts D.steady desk.old desk.new }
+    ensures { Adds D.seen D.counts D.steady slot (use_line used)
+        pending.old desk.old pending.new desk.new result }
 {
-    put_number(desk, slot, pending, used.wire as u64, b' ')?;
-    put_number(desk, slot, pending, used.ratio as u64, b'\n')?;
+    put_line(desk, slot, pending, &[used.wire as u64, used.ratio as u64])?;
     Ok(())
 }
 
@@ -68,14 +61,8 @@ fn put_uses<D: Desk>(
     uses: &[WireUse],
 ) -> Result<(), DeskFault>
     requires { IsTrue (output_is_open slot (D.seen desk.old)) }
-    ensures ok { OnOk result (IsUnderWay slot (pending.old ++ flat_map use_line uses.now)
-        (D.seen desk.old) pending.new (D.seen desk.new)) }
-    ensures err { OnErr result (PrefixWritten slot (pending.old ++ flat_map use_line uses.now)
-        (D.seen desk.old) (D.seen desk.new)) }
-    ensures failed { IsErrOf result DeskFault.Failed →
-        WritingFailed D.counts D.steady desk.old desk.new }
-    ensures own { CountsOnlyWriting D.counts result desk.old desk.new }
-    ensures counted { CountsFaults D.counts D.steady desk.old desk.new }
+    ensures { Adds D.seen D.counts D.steady slot (flat_map use_line uses.now)
+        pending.old desk.old pending.new desk.new result }
 {
     for used in uses {
         put_use(desk, slot, pending, *used)?;
@@ -91,14 +78,8 @@ fn put_net<D: Desk>(
     uses: &[WireUse],
 ) -> Result<(), DeskFault>
     requires { IsTrue (output_is_open slot (D.seen desk.old)) }
-    ensures ok { OnOk result (IsUnderWay slot (pending.old ++ net_text uses.now)
-        (D.seen desk.old) pending.new (D.seen desk.new)) }
-    ensures err { OnErr result (PrefixWritten slot (pending.old ++ net_text uses.now)
-        (D.seen desk.old) (D.seen desk.new)) }
-    ensures failed { IsErrOf result DeskFault.Failed →
-        WritingFailed D.counts D.steady desk.old desk.new }
-    ensures own { CountsOnlyWriting D.counts result desk.old desk.new }
-    ensures counted { CountsFaults D.counts D.steady desk.old desk.new }
+    ensures { Adds D.seen D.counts D.steady slot (net_text uses.now)
+        pending.old desk.old pending.new desk.new result }
 {
     put_number(desk, slot, pending, uses.len() as u64, b'\n')?;
     put_uses(desk, slot, pending, uses)?;
@@ -113,14 +94,8 @@ fn put_nets<D: Desk>(
     solution: &Solution,
 ) -> Result<(), DeskFault>
     requires { IsTrue (output_is_open slot (D.seen desk.old)) }
-    ensures ok { OnOk result (IsUnderWay slot (pending.old ++ solution_text solution.now)
-        (D.seen desk.old) pending.new (D.seen desk.new)) }
-    ensures err { OnErr result (PrefixWritten slot (pending.old ++ solution_text solution.now)
-        (D.seen desk.old) (D.seen desk.new)) }
-    ensures failed { IsErrOf result DeskFault.Failed →
-        WritingFailed D.counts D.steady desk.old desk.new }
-    ensures own { CountsOnlyWriting D.counts result desk.old desk.new }
-    ensures counted { CountsFaults D.counts D.steady desk.old desk.new }
+    ensures { Adds D.seen D.counts D.steady slot (solution_text solution.now)
+        pending.old desk.old pending.new desk.new result }
 {
     for net in 0..solution.nets() {
         put_net(desk, slot, pending, solution.uses(net))?;

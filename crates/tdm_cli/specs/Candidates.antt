@@ -14,7 +14,7 @@ pub record IsCandidate (board : Board) (candidate : Candidate) : Type 0 where
   pub lengths_count : length candidate.lengths.items ≡ length board.wires
   pub lengths_small : All (λ l. l ≤ most_length) candidate.lengths.items
 
--- those of rounds that are remembered
+-- the candidates of the last round and of the strongest, where they are there, are such
 pub record AreCandidates (board : Board) (candidates : Candidates) : Type 0 where
   pub last : IfSome candidates.last (IsCandidate board)
   pub strongest : IfSome candidates.strongest (IsCandidate board)

@@ -11,13 +11,13 @@ use Rattle.tdm_cli.specs.Baseline.{IsWithinUseLimit}
 use Rattle.tdm_cli.specs.Routing.{IsRouting}
 use Rattle.tdm_cli.specs.Rounds.{MeetsRounds}
 
--- there is one list of so many rounds, from the baseline's trees, that the value and the bound both meet
+-- there is such a list of so many rounds from the baseline's trees
 abbrev pub MeetsBaselineRounds : Board → (count value bound : ℕ) → Type 0
 MeetsBaselineRounds board count value bound =
     (trees : List (List ℕ)) × AreBaseTrees board trees × MeetsRounds board trees count value bound
 
 -- of a board with a baseline a tight solution that may be written, and a certificate that may be, with its
--- bound; unless the value is 0, so many rounds that value and bound both meet
+-- bound; unless the value is 0, a list of so many rounds with no smaller value and no larger bound
 pub record IsImproved (board : Board) (count : ℕ) (routing : Routing) (cert : Cert) (bound : ℕ) : Type 0 where
   pub joined : AllConnectable board
   pub within : IsWithinUseLimit board

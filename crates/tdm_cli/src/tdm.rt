@@ -71,15 +71,16 @@ pub fn tdm<D: Desk>(alloc: Global, desk: &mut D, words: &[String]) -> Status
     ensures bounds_hold { BoundsHold }
 
     // How a run ends, whatever the status: an outcome that the files call for is put out, whole or in a first
-    // part, or memory was wanting. The inputs are read in order, as far as one decides, and the outputs
-    // written in order behind them. Words that are no command are refused, and no others.
+    // part, or memory was wanting. An input behind one that decides is as it was. In a first part each text
+    // but the last that was begun is whole, and nothing of the report is said before all texts are. Words
+    // that are no command are refused, and no others.
     ensures ends { (request : Request) → Asks (map string_bytes words.now) request
         → RunEnds D.counts D.steady D.seen faults (inputs_of request) (outputs_of request) (CallsFor request)
         desk.old desk.new result }
     ensures usage { result ≡ Usage → ¬ IsCommand (map string_bytes words.now) }
 
-    // None but the command's own inputs and outputs are touched, and no output under a refusal. At Ok each
-    // input was read to its end, and each output is closed.
+    // All inputs and outputs but the command's own are as they were, and under a refusal so are all outputs
+    // and all files. At Ok each input was read to its end, and each output is closed.
     ensures slots { (request : Request) → Asks (map string_bytes words.now) request
         → TouchesOnly request (D.seen desk.old) (D.seen desk.new) result }
     ensures finished { (request : Request) → Asks (map string_bytes words.now) request → result ≡ Ok

@@ -24,8 +24,8 @@ AllConnectable board = (n : ℕ) → n < length board.nets → IsConnectable boa
 abbrev pub IsEvenRatio : ℕ → Type 0
 IsEvenRatio ratio = (half : ℕ) × (0 < half) × (ratio ≡ 2 * half)
 
--- the wires of each net join its FPGAs, each ratio is positive and even, and on each wire the reciprocals of
--- the ratios sum to at most its lanes
+-- the routing is for the board, the wires of each net join its FPGAs, each ratio is positive and even, and on
+-- each wire the reciprocals of the ratios sum to at most its lanes
 pub record IsLegal (board : Board) (routing : Routing) : Type 0 where
   pub is_for : IsFor board routing
   pub joined : (n : ℕ) → n < length board.nets

@@ -1,16 +1,19 @@
 -- A text on its way to an output, piece after piece.
 use Rattle.std.proofs.Common.{◌≡◌, ℕ, ◌+◌, ◌<◌, ◌≤◌, min, List, [], ◌∷◌, ◌++◌, length, get_or, take, drop, refl, sym, ap, subst, ◌∙◌, arith, append_assoc}
+use Rattle.std.specs.Prelude.{Result, Ok, Err, OnOk, OnErr, IsErrOf}
 use Rattle.std.specs.List.{flat_map}
 use Rattle.std.proofs.lemmas.List.Concat.{flat_map-append}
 use Rattle.std.proofs.lemmas.List.{take_more, take-append-drop, take-append-le, take_min, append-nil}
 use Rattle.std.proofs.Math.Seq.{take-append-add}
+use Rattle.tdm_desk.specs.declared.calls.DeskFault.{DeskFault}
+use Rattle.tdm_desk.specs.declared.calls.DeskFault.TheVariants.{Failed}
 use Rattle.tdm_desk.specs.declared.slots.OutSlot.{OutSlot}
 use Rattle.tdm_desk.specs.Files.{Bytes}
-use Rattle.tdm_desk.specs.Seen.{Seen, written, output_is_open, PrefixWritten}
-use Rattle.tdm_desk.proofs.SeenLaws.{written-written, written-nothing, output_is_open-written}
-use Rattle.tdm_desk.specs.Counts.{Counts, CountsFaults}
-use Rattle.tdm_desk.proofs.CountLaws.{counts_nothing, counts_both}
-use Rattle.text_writer.specs.Writing.{IsUnderWay, Brings}
+use Rattle.tdm_desk.specs.Seen.{Seen, written, PrefixWritten}
+use Rattle.tdm_desk.proofs.SeenLaws.{written-written, written-nothing}
+use Rattle.tdm_desk.specs.Counts.{Counts, CountsFaults, CountsOnlyWriting, WritingFailed}
+use Rattle.tdm_desk.proofs.CountLaws.{counts_nothing, counts_both, write_fault_later, writing_failed_later}
+use Rattle.text_writer.specs.Writing.{IsUnderWay, Brings, Stops, Adds}
 
 -- a front of the first part is a front of the whole
 take-front : (k : ℕ) (a b : Bytes) → take k a ≡ take (min k (length a)) (a ++ b)
@@ -21,118 +24,148 @@ take-front k a b = let le : min k (length a) ≤ length a = omega arith in
 take-behind : (k : ℕ) (a b : Bytes) → a ++ take k b ≡ take (length a + k) (a ++ b)
 take-behind k a b = sym (take-append-add a b k)
 
--- what is pending is all of the text
-pub under_way_none : (slot : OutSlot) (pending : Bytes) (s : Seen) → IsUnderWay slot pending s pending s
-under_way_none slot pending s = record { front = []; whole = refl; is = sym (written-nothing slot s) }
+module _ (slot : OutSlot) (text : Bytes) (before : Seen) (pending : Bytes) (between : Seen) (more : Bytes) where
+  -- one piece after another
+  both_under_way : (later : Bytes) (after : Seen)
+      → IsUnderWay slot text before pending between → IsUnderWay slot (pending ++ more) between later after
+      → IsUnderWay slot (text ++ more) before later after
+  both_under_way later after first second = record {
+    front = first.front ++ second.front;
+    whole = append_assoc first.front second.front later ∙ ap (λ (b : Bytes). first.front ++ b) second.whole
+        ∙ sym (append_assoc first.front pending more) ∙ ap (λ (b : Bytes). b ++ more) first.whole;
+    is = second.is ∙ ap (written slot second.front) first.is
+        ∙ written-written slot first.front second.front before;
+  }
 
--- all of the text was written, and nothing is pending
-pub under_way_written : (slot : OutSlot) (text pending : Bytes) (before after : Seen)
-    → after ≡ written slot text before → pending ≡ [] → IsUnderWay slot text before pending after
-under_way_written slot text pending before after is none =
-    record { front = text; whole = ap (λ (b : Bytes). text ++ b) none ∙ append-nil text; is = is }
+  -- of the first part a front was written
+  prefix_first : PrefixWritten slot text before between → PrefixWritten slot (text ++ more) before between
+  prefix_first fault = (
+    min fault.0 (length text),
+    fault.1 ∙ ap (λ (b : Bytes). written slot b before) (take-front fault.0 text more),
+  )
 
--- one piece more is pending
-pub under_way_more : (slot : OutSlot) (text : Bytes) (before : Seen) (pending : Bytes) (after : Seen)
-    (piece : Bytes)
-    → IsUnderWay slot text before pending after
-    → IsUnderWay slot (text ++ piece) before (pending ++ piece) after
-under_way_more slot text before pending after piece way =
-    record {
-      front = way.front;
-      whole = sym (append_assoc way.front pending piece)
-          ∙ ap (λ (b : Bytes). b ++ piece) way.whole;
-      is = way.is;
+  -- the first part was under way, and then a front was written of what was pending and came
+  prefix_later : (after : Seen)
+      → IsUnderWay slot text before pending between → PrefixWritten slot (pending ++ more) between after
+      → PrefixWritten slot (text ++ more) before after
+  prefix_later after way fault = (
+    length way.front + fault.0,
+    fault.1 ∙ ap (written slot (take fault.0 (pending ++ more))) way.is
+        ∙ written-written slot way.front (take fault.0 (pending ++ more)) before
+        ∙ ap (λ (b : Bytes). written slot b before) (take-behind fault.0 way.front (pending ++ more)
+        ∙ ap (λ (b : Bytes). take (length way.front + fault.0) b) (sym (append_assoc way.front pending more)
+        ∙ ap (λ (b : Bytes). b ++ more) way.whole)),
+  )
+
+-- ---- calls that add
+
+module _ {D : Type 0} {seen : D → Seen} {counts : D → Counts} {steady : D → Type 0} {slot : OutSlot} where
+  -- nothing is added
+  pub brings_none : (pending : Bytes) (desk : D) → Brings seen counts steady slot [] pending desk pending desk
+  brings_none pending desk = record {
+    way = record {
+      front = [];
+      whole = sym (append-nil pending);
+      is = sym (written-nothing slot (seen desk));
+    };
+    counted = counts_nothing desk;
+    uncounted = refl;
+  }
+
+  -- a piece is pending behind what was
+  pub brings_pending : (piece pending : Bytes) (desk : D)
+      → Brings seen counts steady slot piece pending desk (pending ++ piece) desk
+  brings_pending piece pending desk = record {
+    way = record { front = []; whole = refl; is = sym (written-nothing slot (seen desk)) };
+    counted = counts_nothing desk;
+    uncounted = refl;
+  }
+
+  -- one text after another
+  pub brings_both : {a b pending rest later : Bytes} {before between after : D}
+      → Brings seen counts steady slot a pending before rest between
+      → Brings seen counts steady slot b rest between later after
+      → Brings seen counts steady slot (a ++ b) pending before later after
+  brings_both {a} {b} {pending} {rest} {later} {before} {between} {after} first second = record {
+    way = subst (λ (text : Bytes). IsUnderWay slot text (seen before) later (seen after))
+        (append_assoc pending a b) (both_under_way slot (pending ++ a) (seen before) rest (seen between) b
+        later (seen after) first.way second.way);
+    counted = counts_both first.counted second.counted;
+    uncounted = second.uncounted ∙ first.uncounted;
+  }
+
+  -- a fault in the first
+  pub stops_first : {a pending later : Bytes} {fault : DeskFault} {before after : D} (b : Bytes)
+      → Stops seen counts steady slot a pending fault before later after
+      → Stops seen counts steady slot (a ++ b) pending fault before later after
+  stops_first {a} {pending} {later} {fault} {before} {after} b first = record {
+    prefix = subst (λ (text : Bytes). PrefixWritten slot text (seen before) (seen after))
+        (append_assoc pending a b) (prefix_first slot (pending ++ a) (seen before) [] (seen after) b
+        first.prefix);
+    emptied = first.emptied;
+    counted = first.counted;
+    own = first.own;
+    failed = first.failed;
+  }
+
+  -- a fault in the second
+  pub stops_second : {a b pending rest later : Bytes} {fault : DeskFault} {before between after : D}
+      → Brings seen counts steady slot a pending before rest between
+      → Stops seen counts steady slot b rest fault between later after
+      → Stops seen counts steady slot (a ++ b) pending fault before later after
+  stops_second {a} {b} {pending} {rest} {later} {fault} {before} {between} {after} first second = record {
+    prefix = subst (λ (text : Bytes). PrefixWritten slot text (seen before) (seen after))
+        (append_assoc pending a b) (prefix_later slot (pending ++ a) (seen before) rest (seen between) b
+        (seen after) first.way second.prefix);
+    emptied = second.emptied;
+    counted = counts_both first.counted second.counted;
+    own = write_fault_later counts before between after fault first.uncounted second.own;
+    failed = λ is. writing_failed_later first.counted (second.failed is);
+  }
+
+  -- a whole text, of which at last what is pending is written
+  pub whole_written : {text rest later : Bytes} {before between after : D}
+      → Brings seen counts steady slot text [] before rest between
+      → Brings seen counts steady slot [] rest between later after → later ≡ []
+      → seen after ≡ written slot text (seen before)
+  whole_written {text} {rest} {later} {before} first last none =
+      let both = brings_both first last in
+      both.way.is ∙ ap (λ (b : Bytes). written slot b (seen before)) (sym (append-nil both.way.front)
+      ∙ ap (λ (b : Bytes). both.way.front ++ b) (sym none) ∙ both.way.whole ∙ append-nil text)
+
+  -- a fault at last
+  pub prefix_written : {text rest later : Bytes} {fault : DeskFault} {before between after : D}
+      → Brings seen counts steady slot text [] before rest between
+      → Stops seen counts steady slot [] rest fault between later after
+      → PrefixWritten slot text (seen before) (seen after)
+  prefix_written {text} {rest} {later} {fault} {before} {between} {after} first last =
+      subst (λ (b : Bytes). PrefixWritten slot b (seen before) (seen after)) (append-nil text)
+      (stops_second first last).prefix
+
+-- what is pending is written, and nothing is pending any more
+pub adds_written : {D A : Type 0} (seen : D → Seen) {counts : D → Counts} {steady : D → Type 0} (slot : OutSlot)
+    (pending : Bytes) {later : Bytes} {before after : D} (result : Result A DeskFault)
+    → OnOk result (seen after ≡ written slot pending (seen before))
+    → OnErr result (PrefixWritten slot pending (seen before) (seen after))
+    → (IsErrOf result Failed → WritingFailed counts steady before after)
+    → CountsOnlyWriting counts result before after → CountsFaults counts steady before after
+    → later ≡ [] → Adds seen counts steady slot [] pending before later after result
+adds_written seen slot pending (Ok answer) ok err failed own counted none = record {
+  way = record { front = pending; whole = ap (λ (b : Bytes). pending ++ b) none; is = ok };
+  counted = counted;
+  uncounted = own;
+}
+adds_written {D} {A} seen {counts} {steady} slot pending {later} {before} {after} (Err fault) ok err failed own
+    counted none = record {
+      prefix = subst (λ (text : Bytes). PrefixWritten slot text (seen before) (seen after))
+          (sym (append-nil pending)) err;
+      emptied = none;
+      counted = counted;
+      own = own;
+      failed = λ is. failed (ap Err is);
     }
 
--- one piece after another
-pub under_way_both : (slot : OutSlot) (text : Bytes) (before : Seen) (pending : Bytes) (between : Seen)
-    (more later : Bytes) (after : Seen)
-    → IsUnderWay slot text before pending between → IsUnderWay slot (pending ++ more) between later after
-    → IsUnderWay slot (text ++ more) before later after
-under_way_both slot text before pending between more later after first second = record {
-  front = first.front ++ second.front;
-  whole = append_assoc first.front second.front later ∙ ap (λ (b : Bytes). first.front ++ b) second.whole
-      ∙ sym (append_assoc first.front pending more) ∙ ap (λ (b : Bytes). b ++ more) first.whole;
-  is = second.is ∙ ap (written slot second.front) first.is
-      ∙ written-written slot first.front second.front before;
-}
-
--- what is pending was written
-pub under_way_all : (slot : OutSlot) (text : Bytes) (before : Seen) (pending : Bytes) (between after : Seen)
-    → IsUnderWay slot text before pending between → after ≡ written slot pending between
-    → after ≡ written slot text before
-under_way_all slot text before pending between after way is =
-    is ∙ ap (written slot pending) way.is ∙ written-written slot way.front pending before
-    ∙ ap (λ (b : Bytes). written slot b before) way.whole
-
--- the slot stays open
-pub under_way_open : (slot : OutSlot) (text : Bytes) (before : Seen) (pending : Bytes) (after : Seen)
-    → IsUnderWay slot text before pending after → output_is_open slot after ≡ output_is_open slot before
-under_way_open slot text before pending after way = ap (output_is_open slot) way.is
-    ∙ output_is_open-written slot slot way.front before
-
--- ---- after a fault
-
--- of the first part a front was written
-pub prefix_first : (slot : OutSlot) (text more : Bytes) (before after : Seen)
-    → PrefixWritten slot text before after → PrefixWritten slot (text ++ more) before after
-prefix_first slot text more before after fault = (
-  min fault.0 (length text),
-  fault.1 ∙ ap (λ (b : Bytes). written slot b before) (take-front fault.0 text more),
-)
-
--- the first part was under way, and then a front was written of what was pending and came
-pub prefix_later : (slot : OutSlot) (text : Bytes) (before : Seen) (pending : Bytes) (between : Seen)
-    (more : Bytes) (after : Seen)
-    → IsUnderWay slot text before pending between → PrefixWritten slot (pending ++ more) between after
-    → PrefixWritten slot (text ++ more) before after
-prefix_later slot text before pending between more after way fault = (
-  length way.front + fault.0,
-  fault.1 ∙ ap (written slot (take fault.0 (pending ++ more))) way.is
-      ∙ written-written slot way.front (take fault.0 (pending ++ more)) before
-      ∙ ap (λ (b : Bytes). written slot b before) (take-behind fault.0 way.front (pending ++ more)
-      ∙ ap (λ (b : Bytes). take (length way.front + fault.0) b) (sym (append_assoc way.front pending more)
-      ∙ ap (λ (b : Bytes). b ++ more) way.whole)),
-)
-
--- a text was under way, and then a front was written of what was pending
-pub prefix_rest : (slot : OutSlot) (text : Bytes) (before : Seen) (pending : Bytes) (between after : Seen)
-    → IsUnderWay slot text before pending between → PrefixWritten slot pending between after
-    → PrefixWritten slot text before after
-prefix_rest slot text before pending between after way fault = (
-  length way.front + fault.0,
-  fault.1 ∙ ap (written slot (take fault.0 pending)) way.is
-      ∙ written-written slot way.front (take fault.0 pending) before
-      ∙ ap (λ (b : Bytes). written slot b before) (take-behind fault.0 way.front pending
-      ∙ ap (λ (b : Bytes). take (length way.front + fault.0) b) way.whole),
-)
-
--- ---- two parts of what is added to what was pending
-
-module _ (slot : OutSlot) (pending a b : Bytes) where
-  -- a fault in the first part
-  pub fault_in_first : (before after : Seen) → PrefixWritten slot (pending ++ a) before after
-      → PrefixWritten slot (pending ++ (a ++ b)) before after
-  fault_in_first before after fault = subst (λ (text : Bytes). PrefixWritten slot text before after)
-      (append_assoc pending a b) (prefix_first slot (pending ++ a) b before after fault)
-
-  -- a fault in the second part
-  pub fault_in_second : (before : Seen) (rest : Bytes) (between after : Seen)
-      → IsUnderWay slot (pending ++ a) before rest between → PrefixWritten slot (rest ++ b) between after
-      → PrefixWritten slot (pending ++ (a ++ b)) before after
-  fault_in_second before rest between after way fault =
-      subst (λ (text : Bytes). PrefixWritten slot text before after) (append_assoc pending a b)
-      (prefix_later slot (pending ++ a) before rest between b after way fault)
-
-  -- both parts
-  pub both_parts : (before : Seen) (rest : Bytes) (between : Seen) (later : Bytes) (after : Seen)
-      → IsUnderWay slot (pending ++ a) before rest between → IsUnderWay slot (rest ++ b) between later after
-      → IsUnderWay slot (pending ++ (a ++ b)) before later after
-  both_parts before rest between later after first second =
-      subst (λ (text : Bytes). IsUnderWay slot text before later after) (append_assoc pending a b)
-      (under_way_both slot (pending ++ a) before rest between b later after first second)
-
--- ---- the parts of a list, one after another
+-- ---- the texts of a list, one after another
 
 -- the text of the front of a list, and of one more
 flat_map-more : {X : Type 0} (f : X → Bytes) (xs : List X) (i : ℕ) (d : X) → i < length xs
@@ -147,41 +180,21 @@ flat_map-split : {X : Type 0} (f : X → Bytes) (xs : List X) (i : ℕ)
 flat_map-split f xs i = sym (flat_map-append f (take i xs) (drop i xs))
     ∙ ap (flat_map f) (take-append-drop i xs)
 
-module _ {D : Type 0} (seen : D → Seen) (counts : D → Counts) (steady : D → Type 0) (slot : OutSlot) where
-  -- nothing is brought yet
-  pub brings_none : (pending : Bytes) (desk : D)
-      → Brings seen counts steady slot (pending ++ []) desk pending desk
-  brings_none pending desk = record {
-    way = record {
-      front = [];
-      whole = sym (append-nil pending);
-      is = sym (written-nothing slot (seen desk));
-    };
-    counted = counts_nothing desk;
-    uncounted = refl;
-  }
+module _ {D : Type 0} {seen : D → Seen} {counts : D → Counts} {steady : D → Type 0} {slot : OutSlot} {X : Type 0}
+    (f : X → Bytes) (xs : List X) (i : ℕ) (d : X) (there : i < length xs) {pending rest later : Bytes}
+    {before between after : D} where
+  -- the text of one more
+  pub brings_more : Brings seen counts steady slot (flat_map f (take i xs)) pending before rest between
+      → Brings seen counts steady slot (f (get_or xs i d)) rest between later after
+      → Brings seen counts steady slot (flat_map f (take (i + 1) xs)) pending before later after
+  brings_more first second = rw (flat_map-more f xs i d there) (brings_both first second)
 
-  module _ {X : Type 0} (f : X → Bytes) (xs : List X) (i : ℕ) (d : X) (lt : i < length xs)
-      (pending rest : Bytes) (before between : D)
-      (brings : Brings seen counts steady slot (pending ++ flat_map f (take i xs)) before rest between) where
-    -- the text of one more
-    pub brings_more : (later : Bytes) (after : D)
-        → IsUnderWay slot (rest ++ f (get_or xs i d)) (seen between) later (seen after)
-        → CountsFaults counts steady between after → counts after ≡ counts between
-        → Brings seen counts steady slot (pending ++ flat_map f (take (i + 1) xs)) before later after
-    brings_more later after way counted uncounted = record {
-      way = rw (flat_map-more f xs i d lt) (both_parts slot pending (flat_map f (take i xs))
-          (f (get_or xs i d)) (seen before) rest (seen between) later (seen after) brings.way way);
-      counted = counts_both brings.counted counted;
-      uncounted = uncounted ∙ brings.uncounted;
-    }
-
-    -- a fault in it
-    pub brings_fault : (after : D) → PrefixWritten slot (rest ++ f (get_or xs i d)) (seen between)
-        (seen after) → PrefixWritten slot (pending ++ flat_map f xs) (seen before) (seen after)
-    brings_fault after fault =
-        let so_far : PrefixWritten slot (pending ++ flat_map f (take (i + 1) xs)) (seen before) (seen after) =
-        rw (flat_map-more f xs i d lt) (fault_in_second slot pending (flat_map f (take i xs))
-        (f (get_or xs i d)) (seen before) rest (seen between) (seen after) brings.way fault) in
-        rw (← flat_map-split f xs (i + 1)) (fault_in_first slot pending (flat_map f (take (i + 1) xs))
-        (flat_map f (drop (i + 1) xs)) (seen before) (seen after) so_far)
+  -- a fault in it
+  pub stops_more : {fault : DeskFault}
+      → Brings seen counts steady slot (flat_map f (take i xs)) pending before rest between
+      → Stops seen counts steady slot (f (get_or xs i d)) rest fault between later after
+      → Stops seen counts steady slot (flat_map f xs) pending fault before later after
+  stops_more {fault} first second =
+      let so_far : Stops seen counts steady slot (flat_map f (take (i + 1) xs)) pending fault before later after =
+      rw (flat_map-more f xs i d there) (stops_second first second) in
+      rw (← flat_map-split f xs (i + 1)) (stops_first (flat_map f (drop (i + 1) xs)) so_far)

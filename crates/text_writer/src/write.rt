@@ -5,7 +5,7 @@ ghost use Rattle.std.specs.Prelude.{◌≡◌, ◌<◌, ◌≤◌, [], ◌++◌,
 ghost use Rattle.tdm_desk.specs.Seen.{output_is_open, written, PrefixWritten};
 ghost use Rattle.tdm_desk.specs.Counts.{CountsFaults, CountsOnlyWriting, WritingFailed};
 ghost use Rattle.tdm_lines.specs.Written.{line_text};
-ghost use Rattle.text_writer.specs.Writing.{number_then, numbers_then, IsUnderWay};
+ghost use Rattle.text_writer.specs.Writing.{number_then, numbers_then, Adds};
 
 use crate::pending::{Pending, ROOM};
 use tdm_desk::{Desk, DeskFault, OutSlot, write_whole};
@@ -16,14 +16,8 @@ use tdm_lines::decimal;
 /// After a fault a prefix of it was written, nothing is pending, and the slot stays open.
 pub fn flush<D: Desk>(desk: &mut D, slot: OutSlot, pending: &mut Pending) -> Result<(), DeskFault>
     requires { IsTrue (output_is_open slot (D.seen desk.old)) }
-    ensures ok { OnOk result (D.seen desk.new ≡ written slot pending.old (D.seen desk.old)) }
+    ensures adds { Adds D.seen D.counts D.steady slot [] pending.old desk.old pending.new desk.new result }
     ensures emptied { pending.new ≡ [] }
-    ensures err { OnErr result (PrefixWritten slot pending.old
-        (D.seen desk.old) (D.seen desk.new)) }
-    ensures failed { IsErrOf result DeskFault.Failed →
-        WritingFailed D.counts D.steady desk.old desk.new }
-    ensures own { CountsOnlyWriting D.counts result desk.old desk.new }
-    ensures counted { CountsFaults D.counts D.steady desk.old desk.new }
 {
     let written = write_whole(desk, slot, pending.as_slice());
     pending.clear();
@@ -39,15 +33,8 @@ fn put<D: Desk>(
 ) -> Result<(), DeskFault>
     requires open { IsTrue (output_is_open slot (D.seen desk.old)) }
     requires short { length piece.now ≤ ROOM }
-    ensures ok { OnOk result (IsUnderWay slot (pending.old ++ piece.now)
-        (D.seen desk.old) pending.new (D.seen desk.new)) }
-    ensures err { OnErr result (PrefixWritten slot (pending.old ++ piece.now)
-        (D.seen desk.old) (D.seen desk.new)) }
-    ensures emptied { OnErr result (pending.new ≡ []) }
-    ensures failed { IsErrOf result DeskFault.Failed →
-        WritingFailed D.counts D.steady desk.old desk.new }
-    ensures own { CountsOnlyWriting D.counts result desk.old desk.new }
-    ensures counted { CountsFaults D.counts D.steady desk.old desk.new }
+    ensures { Adds D.seen D.counts D.steady slot piece.now
+        pending.old desk.old pending.new desk.new result }
 {
     if pending.room() < piece.len() {
         flush(desk, slot, pending)?;
@@ -68,15 +55,8 @@ pub fn put_number<D: Desk>(
     end: u8,
 ) -> Result<(), DeskFault>
     requires { IsTrue (output_is_open slot (D.seen desk.old)) }
-    ensures ok { OnOk result (IsUnderWay slot (pending.old ++ number_then number end)
-        (D.seen desk.old) pending.new (D.seen desk.new)) }
-    ensures err { OnErr result (PrefixWritten slot (pending.old ++ number_then number end)
-        (D.seen desk.old) (D.seen desk.new)) }
-    ensures emptied { OnErr result (pending.new ≡ []) }
-    ensures failed { IsErrOf result DeskFault.Failed →
-        WritingFailed D.counts D.steady desk.old desk.new }
-    ensures own { CountsOnlyWriting D.counts result desk.old desk.new }
-    ensures counted { CountsFaults D.counts D.steady desk.old desk.new }
+    ensures { Adds D.seen D.counts D.steady slot (number_then number end)
+        pending.old desk.old pending.new desk.new result }
 {
     put(desk, slot, pending, decimal(number as u128).as_bytes())?;
     put(desk, slot, pending, &[end])?;
@@ -95,15 +75,8 @@ pub fn put_numbers<D: Desk>(
     end: u8,
 ) -> Result<(), DeskFault>
     requires { IsTrue (output_is_open slot (D.seen desk.old)) }
-    ensures ok { OnOk result (IsUnderWay slot (pending.old ++ numbers_then end numbers.now)
-        (D.seen desk.old) pending.new (D.seen desk.new)) }
-    ensures err { OnErr result (PrefixWritten slot (pending.old ++ numbers_then end numbers.now)
-        (D.seen desk.old) (D.seen desk.new)) }
-    ensures emptied { OnErr result (pending.new ≡ []) }
-    ensures failed { IsErrOf result DeskFault.Failed →
-        WritingFailed D.counts D.steady desk.old desk.new }
-    ensures own { CountsOnlyWriting D.counts result desk.old desk.new }
-    ensures counted { CountsFaults D.counts D.steady desk.old desk.new }
+    ensures { Adds D.seen D.counts D.steady slot (numbers_then end numbers.now)
+        pending.old desk.old pending.new desk.new result }
 {
     for number in numbers {
         put_number(desk, slot, pending, *number, end)?;
@@ -123,15 +96,8 @@ pub fn put_line<D: Desk>(
 ) -> Result<(), DeskFault>
     requires open { IsTrue (output_is_open slot (D.seen desk.old)) }
     requires some { 0 < length numbers.now }
-    ensures ok { OnOk result (IsUnderWay slot (pending.old ++ line_text numbers.now)
-        (D.seen desk.old) pending.new (D.seen desk.new)) }
-    ensures err { OnErr result (PrefixWritten slot (pending.old ++ line_text numbers.now)
-        (D.seen desk.old) (D.seen desk.new)) }
-    ensures emptied { OnErr result (pending.new ≡ []) }
-    ensures failed { IsErrOf result DeskFault.Failed →
-        WritingFailed D.counts D.steady desk.old desk.new }
-    ensures own { CountsOnlyWriting D.counts result desk.old desk.new }
-    ensures counted { CountsFaults D.counts D.steady desk.old desk.new }
+    ensures { Adds D.seen D.counts D.steady slot (line_text numbers.now)
+        pending.old desk.old pending.new desk.new result }
 {
     let last = numbers.len() - 1;
     put_numbers(desk, slot, pending, &numbers[..last], b' ')?;

@@ -1,4 +1,4 @@
-use Rattle.std.proofs.Common.{◌++◌, take}
+use Rattle.std.proofs.Common.{take}
 use Rattle.std.specs.List.{flat_map}
 use Rattle.tdm_lines.specs.Written.{line_text}
 use Rattle.text_writer.specs.Writing.{Brings}
@@ -6,4 +6,4 @@ use Rattle.contest_input.proofs.write.put_nets.Given as goal
 
 abbrev pub invariant-loop-n : goal.invariant-loop-n
 invariant-loop-n g l = Brings g.D.Desk.seen g.D.Desk.counts g.D.Desk.steady l.slot
-    (l.fn.pending ++ flat_map line_text (take l.n l.problem.nets)) l.fn.desk l.pending l.desk
+    (flat_map line_text (take l.n l.problem.nets)) l.fn.pending l.fn.desk l.pending l.desk

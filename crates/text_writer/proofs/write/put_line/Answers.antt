@@ -1,41 +1,24 @@
-use Rattle.std.proofs.Common.{◌-◌, ◌++◌, length, get_or, take, subst}
+use Rattle.std.proofs.Common.{◌-◌, length, get_or}
 use Rattle.std.proofs.lemmas.Result.{err_from_is_err_and}
-use Rattle.tdm_desk.specs.Files.{Bytes}
-use Rattle.tdm_desk.specs.Seen.{PrefixWritten}
-use Rattle.text_writer.specs.Writing.{number_then, numbers_then, IsUnderWay}
-use Rattle.text_writer.proofs.UnderWay.{fault_in_first, fault_in_second, both_parts}
+use Rattle.text_writer.specs.Writing.{number_then}
+use Rattle.text_writer.proofs.UnderWay.{brings_both, stops_first, stops_second}
 use Rattle.text_writer.proofs.LineParts.{line-split}
 use Rattle.text_writer.proofs.write.put_line.Goals as goal
 
-pub returns-in_err-put_numbers-clause-err : goal.returns-in_err-put_numbers-clause-err
-returns-in_err-put_numbers-clause-err g c =
+pub returns-in_err-put_numbers : goal.returns-in_err-put_numbers
+returns-in_err-put_numbers g c =
     let p = err_from_is_err_and c.from_residual.result c.from_residual.ensures.1 in
-    let Faults : Bytes → Type 0 = λ text. PrefixWritten c.args.slot (c.args.pending.now ++ text)
-    (g.D.Desk.seen c.args.desk.now) (g.D.Desk.seen c.put_numbers.new.desk) in
-    rw p.1 (subst Faults (line-split c.args.numbers.now c.requires.some)
-    (fault_in_first c.args.slot c.args.pending.now
-    (numbers_then 32 (take (length c.args.numbers.now - 1) c.args.numbers.now))
-    (number_then (get_or c.args.numbers.now (length c.args.numbers.now - 1) 0) 10) _ _
-    c.in_err-put_numbers.ensures.err))
+    let last = number_then (get_or c.args.numbers.now (length c.args.numbers.now - 1) 0) 10 in
+    rw (p.1, p.2, ← line-split c.args.numbers.now c.requires.some)
+    (stops_first last c.in_err-put_numbers.ensures)
 
-pub returns-in_err-put_number-clause-err : goal.returns-in_err-put_number-clause-err
-returns-in_err-put_number-clause-err g c =
+pub returns-in_err-put_number : goal.returns-in_err-put_number
+returns-in_err-put_number g c =
     let p = err_from_is_err_and c.from_residual-in_err-put_number.result
     c.from_residual-in_err-put_number.ensures.1 in
-    let Faults : Bytes → Type 0 = λ text. PrefixWritten c.args.slot (c.args.pending.now ++ text)
-    (g.D.Desk.seen c.args.desk.now) (g.D.Desk.seen c.put_number.new.desk) in
-    rw p.1 (subst Faults (line-split c.args.numbers.now c.requires.some)
-    (fault_in_second c.args.slot c.args.pending.now
-    (numbers_then 32 (take (length c.args.numbers.now - 1) c.args.numbers.now))
-    (number_then (get_or c.args.numbers.now (length c.args.numbers.now - 1) 0) 10) _ _ _ _
-    c.in_ok-put_numbers.ensures.ok c.in_err-put_number.ensures.err))
+    rw (p.1, p.2, ← line-split c.args.numbers.now c.requires.some)
+    (stops_second c.in_ok-put_numbers.ensures c.in_err-put_number.ensures)
 
-pub returns-clause-ok : goal.returns-clause-ok
-returns-clause-ok g c =
-    let Way : Bytes → Type 0 = λ text. IsUnderWay c.args.slot (c.args.pending.now ++ text)
-    (g.D.Desk.seen c.args.desk.now) c.put_number.new.pending (g.D.Desk.seen c.put_number.new.desk) in
-    subst Way (line-split c.args.numbers.now c.requires.some)
-    (both_parts c.args.slot c.args.pending.now
-    (numbers_then 32 (take (length c.args.numbers.now - 1) c.args.numbers.now))
-    (number_then (get_or c.args.numbers.now (length c.args.numbers.now - 1) 0) 10) _ _ _ _ _
-    c.in_ok-put_numbers.ensures.ok c.in_ok-put_number.ensures.ok)
+pub returns : goal.returns
+returns g c = rw (← line-split c.args.numbers.now c.requires.some)
+    (brings_both c.in_ok-put_numbers.ensures c.in_ok-put_number.ensures)
