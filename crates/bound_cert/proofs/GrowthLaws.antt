@@ -1,13 +1,13 @@
 -- What joins FPGAs is at least as long as these grow.
-use Rattle.std.proofs.Common.{◌≡◌, ℕ, zero, suc, ◌+◌, ◌-◌, ◌<◌, ◌≤◌, ◌⊎◌, List, [], ◌∷◌, ◌++◌, length, refl, sym, ap, ◌∙◌, subst, inl, inr, ⊎_elim, arith}
+use Rattle.std.proofs.Common.{◌≡◌, ℕ, zero, suc, ◌+◌, ◌-◌, ◌<◌, ◌≤◌, ◌⊎◌, List, [], ◌∷◌, ◌++◌, length, refl, sym, ap, subst, inl, inr, ⊎_elim, arith}
 use Rattle.std.specs.Prelude.{Contains, sum_by}
 use Rattle.std.proofs.lemmas.Bool.{cases_lt}
 use Rattle.std.proofs.lemmas.List.Sums.{sum_by-cons, sum_by-le-sum_by}
 use Rattle.tdm_problem.specs.Board.{Board}
-use Rattle.tdm_problem.specs.Walk.{Links, IsWalk, Joins}
+use Rattle.tdm_problem.specs.Walk.{Links, IsWalk}
 use Rattle.shortest_forest.specs.Arcs.{Arcs, IsArcWalk, both_ways}
 use Rattle.shortest_forest.proofs.ArcWays.{arc_walk-on}
-use Rattle.bound_cert.specs.Growth.{IsReach, IsHeight, worn, GrowOver, IsGrowth, GrowthLaw}
+use Rattle.bound_cert.specs.Growth.{IsReach, IsHeight, worn, GrowOver, GrowthLaw}
 use Rattle.bound_cert.proofs.Nearer.{IsNear, rank, LeadsNearer, nearer, near-wider, near-from_walk, along, along-nearer, along-each, along-le, pick}
 
 module _ (board : Board) (wires : List ℕ) (root k : ℕ) where

@@ -1,8 +1,8 @@
 -- How long the shortest walks over wires with directed lengths are, up to a cap.
-use Rattle.std.proofs.Common.{◌≡◌, ℕ, zero, suc, ◌+◌, ◌<◌, ◌≤◌, ◌⊎◌, List, [], ◌∷◌, ◌++◌, Some, length, refl, sym, ◌∙◌, subst, inl, inr, ⊎_elim, arith}
-use Rattle.std.specs.Prelude.{min, slice_get}
+use Rattle.std.proofs.Common.{◌≡◌, ℕ, zero, suc, ◌+◌, ◌<◌, ◌≤◌, ◌⊎◌, List, [], ◌∷◌, ◌++◌, length, refl, sym, ◌∙◌, subst, inl, inr, ⊎_elim, arith}
+use Rattle.std.specs.Prelude.{min}
 use Rattle.std.proofs.lemmas.Bool.{cases_eq, cases_lt}
-use Rattle.std.proofs.lemmas.Option.{none-some, same_Some, slice_get_cases}
+use Rattle.std.proofs.lemmas.Option.{same_Some, slice_get_cases}
 use Rattle.tdm_problem.specs.declared.wire.Wire.{Wire}
 use Rattle.tdm_problem.specs.Board.{Board}
 use Rattle.tdm_problem.specs.Walk.{Links}

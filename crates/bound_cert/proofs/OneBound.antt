@@ -1,6 +1,5 @@
 -- A certificate has one bound, and no other.
-use Rattle.std.proofs.Common.{◌≡◌, ℕ, zero, suc, Bool, true, false, ◌-◌, ◌*◌, ◌<◌, length, refl, sym, ap, subst, ◌∙◌, arith}
-use Rattle.std.specs.Prelude.{Contains}
+use Rattle.std.proofs.Common.{◌≡◌, ℕ, zero, suc, Bool, true, false, ◌*◌, ◌<◌, length, refl, sym, ap, subst, ◌∙◌, arith}
 use Rattle.tdm_problem.specs.Board.{Board}
 use Rattle.tdm_problem.specs.Legal.{terminals_of}
 use Rattle.tdm_problem.proofs.SumsBelow.{sum_below-agree}
@@ -10,7 +9,7 @@ use Rattle.bound_cert.specs.declared.certificate.CertKind.{CertKind}
 use Rattle.bound_cert.specs.declared.certificate.CertKind.TheVariants.{Share, Hop}
 use Rattle.bound_cert.specs.Certificate.{Cert, length_of}
 use Rattle.bound_cert.specs.Growth.{IsNetGrowth, IsGrowth}
-use Rattle.bound_cert.specs.Bound.{IsSpreadBy, IsBound, demand_by, divisor_of, least_even, bound_of, net_spread, weight_of_net, root_of_net, root_sum, weight_sum}
+use Rattle.bound_cert.specs.Bound.{IsSpreadBy, demand_by, divisor_of, least_even, net_spread, weight_of_net, root_of_net, root_sum, weight_sum}
 use Rattle.bound_cert.specs.Laws.{OneBoundLaw, SomeBoundLaw, ChosenBoundLaw}
 use Rattle.bound_cert.proofs.NetSpreads.{root_of-none}
 use Rattle.bound_cert.proofs.OneGrowth.{one_growth}

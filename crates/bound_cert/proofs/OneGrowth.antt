@@ -1,11 +1,11 @@
 -- FPGAs grow by one number alone.
-use Rattle.std.proofs.Common.{◌≡◌, ℕ, zero, suc, ◌+◌, ◌-◌, ◌<◌, ◌≤◌, ◌⊎◌, List, [], ◌∷◌, refl, sym, subst, inl, inr, arith}
+use Rattle.std.proofs.Common.{◌≡◌, ℕ, zero, suc, ◌+◌, ◌≤◌, ◌⊎◌, List, [], ◌∷◌, refl, sym, subst, inl, inr, arith}
 use Rattle.std.specs.Prelude.{Contains, reverse}
 use Rattle.tdm_problem.specs.Board.{Board}
 use Rattle.tdm_problem.specs.Walk.{Links, IsWalk, AnyWire, IsConnectable}
 use Rattle.tdm_problem.proofs.Walks.{only, AnyWire-from_links, IsWalk-append, IsWalk-reverse, Joins-from_source}
 use Rattle.shortest_forest.specs.Arcs.{Arcs, IsArcWalk, both_ways}
-use Rattle.bound_cert.specs.Growth.{IsReach, IsHeight, worn, GrowOver, IsGrowth, OneGrowthLaw}
+use Rattle.bound_cert.specs.Growth.{IsReach, IsHeight, worn, GrowOver, OneGrowthLaw}
 
 module _ (board : Board) where
   -- the rests are the same along each wire

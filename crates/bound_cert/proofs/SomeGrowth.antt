@@ -6,7 +6,7 @@ use Rattle.tdm_problem.specs.Board.{Board}
 use Rattle.tdm_problem.specs.Walk.{IsWalk, AnyWire, IsConnectable}
 use Rattle.tdm_problem.proofs.Walks.{only}
 use Rattle.shortest_forest.specs.Arcs.{Arcs, IsArcWalk, both_ways}
-use Rattle.bound_cert.specs.Growth.{IsReach, IsHeight, worn, GrowOver, IsGrowth, SomeGrowthLaw}
+use Rattle.bound_cert.specs.Growth.{IsReach, IsHeight, worn, GrowOver, SomeGrowthLaw}
 use Rattle.bound_cert.proofs.LeastWays.{HasWalk, least-way}
 use Rattle.bound_cert.proofs.OneGrowth.{any-walk}
 

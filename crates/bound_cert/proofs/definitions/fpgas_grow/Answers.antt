@@ -1,9 +1,9 @@
-use Rattle.std.proofs.Common.{◌≡◌, ℕ, zero, suc, ◌+◌, ◌-◌, ◌≤◌, ◌⊎◌, List, [], ◌∷◌, Some, get_or, refl, inl, inr, arith}
+use Rattle.std.proofs.Common.{◌≡◌, ℕ, zero, suc, ◌-◌, List, [], ◌∷◌, Some, get_or, refl, inl, inr, arith}
 use Rattle.std.specs.Prelude.{slice_get}
 use Rattle.tdm_problem.specs.Board.{Board}
 use Rattle.tdm_problem.specs.Walk.{Links}
 use Rattle.tdm_problem.specs.Samples.{wire, ring, star}
-use Rattle.shortest_forest.specs.Arcs.{Arcs, IsArcWalk, both_ways}
+use Rattle.shortest_forest.specs.Arcs.{Arcs, both_ways}
 use Rattle.bound_cert.specs.Growth.{worn, GrowOver}
 use Rattle.bound_cert.specs.Samples.{ring_of_five}
 use Rattle.bound_cert.proofs.GrowthByHand.{one-grows, Near}

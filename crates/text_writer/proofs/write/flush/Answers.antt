@@ -1,4 +1,3 @@
-use Rattle.std.proofs.Common.{◌∙◌}
 use Rattle.text_writer.proofs.UnderWay.{adds_written}
 use Rattle.text_writer.proofs.write.flush.Goals as goal
 

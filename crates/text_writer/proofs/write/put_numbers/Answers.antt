@@ -1,4 +1,4 @@
-use Rattle.std.proofs.Common.{arith, ℕ, ◌<◌, length}
+use Rattle.std.proofs.Common.{arith, ℕ}
 use Rattle.std.proofs.lemmas.Result.{err_from_is_err_and}
 use Rattle.tdm_desk.specs.Files.{Bytes}
 use Rattle.text_writer.specs.Writing.{number_then}
