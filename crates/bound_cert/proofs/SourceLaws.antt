@@ -118,7 +118,8 @@ AreSourcesBefore-more board n x place keys keys' choices so_far there source ins
 
 -- after all nets
 pub AreSourcesBefore-done : (board : Board) (n : ℕ) (keys choices : List ℕ)
-    → AreSourcesBefore board n keys choices → length board.nets ≡ n → (keys ≡ sources_of board) × ChooseSources board choices
+    → AreSourcesBefore board n keys choices → length board.nets ≡ n
+    → (keys ≡ sources_of board) × ChooseSources board choices
 AreSourcesBefore-done board n keys choices so_far all =
     let row : List ℕ = map (λ net. slice_index net 0) board.nets in
     let whole : take n row ≡ row =

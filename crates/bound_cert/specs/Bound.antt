@@ -69,7 +69,8 @@ demand_of_kind kind board cert = demand_by kind board cert (net_spread board cer
 abbrev pub demand_of : Board → Cert → ℕ
 demand_of board cert = demand_of_kind cert.kind board cert
 
--- the divisor of a certificate of this kind: by shares the sum of all weights, by hops the unit times that sum
+-- the divisor of a certificate of this kind: by shares the sum of all weights, by hops the unit times that
+-- sum
 abbrev pub divisor_of_kind : CertKind → (weights : List ℕ) → ℕ
 divisor_of_kind Share weights = sum weights
 divisor_of_kind (Hop unit) weights = unit * sum weights

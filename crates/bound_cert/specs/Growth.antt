@@ -34,8 +34,8 @@ GrowOver board root (x ∷ more) rests growth =
     × ((heights : ℕ → ℕ) × ((f : ℕ) → IsHeight board rests x reach f (heights f))
     × ((rest : ℕ) × GrowOver board root more (worn rests heights) rest × (growth ≡ reach + rest)))
 
--- so much do these FPGAs grow over wires of these lengths: where the wires of the board join them, the first is
--- the root and the others grow in order; where they do not, the FPGAs grow by 0
+-- so much do these FPGAs grow over wires of these lengths: where the wires of the board join them, the first
+-- is the root and the others grow in order; where they do not, the FPGAs grow by 0
 abbrev pub IsGrowth : Board → (wire_length : ℕ → ℕ) → List ℕ → (growth : ℕ) → Type 0
 IsGrowth board wire_length [] growth = growth ≡ 0
 IsGrowth board wire_length (root ∷ growing) growth =

@@ -25,8 +25,8 @@ ListsLengths board lengths wire_length = (e : ℕ) → e < length board.wires
     → slice_index_or lengths e 0 ≡ wire_length e
 
 -- the least even number that, times the sum of the weights, is at least twice the sum over all nets of the
--- depth times the root of the weight, less the square of each wire's length for each of its lanes; 0 where the
--- weights sum to 0
+-- depth times the root of the weight, less the square of each wire's length for each of its lanes; 0 where
+-- the weights sum to 0
 abbrev pub share_bound : Board → (weights : List ℕ) → (wire_length depth : ℕ → ℕ) → ℕ
 share_bound board weights wire_length depth = least_even
     (2 * sum_below (length board.nets) (λ n. root_of (net_weight board.groups weights n) * depth n)

@@ -7,8 +7,8 @@ use Rattle.tdm_problem.specs.Trees.{tree_of}
 use Rattle.tdm_problem.specs.Walk.{Joins}
 use Rattle.tdm_problem.specs.Legal.{lanes_of, terminals_of}
 
--- the nets of a lane, rounded up, and raised to an even number: where there are nets, the least even ratio with
--- which that many fit these lanes if all have it (the law `uniform_is_least`)
+-- the nets of a lane, rounded up, and raised to an even number: where there are nets, the least even ratio
+-- with which that many fit these lanes if all have it (the law `uniform_is_least`)
 abbrev pub uniform_ratio : (nets lanes : ℕ) → ℕ
 uniform_ratio nets lanes = 2 * div_ceil (div_ceil nets lanes) 2
 

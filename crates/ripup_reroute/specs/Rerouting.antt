@@ -19,7 +19,8 @@ pub record AreRerouted (board : Board) (numbers picks : List ℕ) (trees new : L
   pub unpicked : (n : ℕ) → ¬ Contains picks n → tree_of new n ≡ tree_of trees n
   pub not_above : load_cost board new numbers ≤ load_cost board trees numbers
 
--- net n is settled: on two FPGAs no set of wires that joins them costs less, and in any case its tree is short
+-- net n is settled: on two FPGAs no set of wires that joins them costs less, and in any case its tree is
+-- short
 pub record IsSettledFor (board : Board) (numbers : List ℕ) (n : ℕ) (trees : List (List ℕ)) : Type 0 where
   pub two : (a b : ℕ) (wires : List ℕ) → terminals_of board n ≡ a ∷ b ∷ []
       → AreWiresOf board wires → Joins board (Contains wires) (a ∷ b ∷ [])

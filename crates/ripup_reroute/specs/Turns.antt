@@ -17,8 +17,8 @@ IsShortFor board numbers n trees = (distance : ℕ → ℕ)
     → slice_index numbers n * length_of (marginal_length trees numbers n) (tree_of trees n)
     ≤ slice_index numbers n * sum_by distance (terminals_of board n)
 
--- a turn of net n: all other trees stay, and its own stays or becomes another minimal tree, wires rising, with
--- which the cost is smaller; whether it stayed or not, it is short then
+-- a turn of net n: all other trees stay, and its own stays or becomes another minimal tree, wires rising,
+-- with which the cost is smaller; whether it stayed or not, it is short then
 pub record IsTurn (board : Board) (numbers : List ℕ) (n : ℕ) (trees new : List (List ℕ)) : Type 0 where
   pub others : new ≡ slice_set trees n (tree_of new n)
   pub own : (tree_of new n ≡ tree_of trees n)

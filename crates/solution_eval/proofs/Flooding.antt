@@ -17,7 +17,8 @@ path_more steps a [] b c path next =
     (subst (λ x. Contains steps (record { from = x; to = c })) (sym path) next, refl)
 path_more steps a (x ∷ xs) b c path next = (path.0, path_more steps x xs b c path.1 next)
 
-leads_more : (steps : List Step) (a b c : ℕ) → HasPath steps a b → Contains steps (record { from = b; to = c })
+leads_more : (steps : List Step) (a b c : ℕ) → HasPath steps a b
+    → Contains steps (record { from = b; to = c })
     → HasPath steps a c
 leads_more steps a b c leads next = (leads.0 ++ c ∷ [], path_more steps a leads.0 b c leads.1 next)
 

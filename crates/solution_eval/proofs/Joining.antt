@@ -44,7 +44,8 @@ joined_by_leads r board wires steps listed fpgas row same steps_listed told =
     subst (λ ss. AreSteps board wires ss) (sym same) steps_listed in (
       λ t. Joins-from_source board (Contains wires) (get_or fpgas 0 0) fpgas
           (λ b there.
-          let leads : HasPath steps (get_or fpgas 0 0) b = All-contains (HasPath steps (get_or fpgas 0 0)) fpgas b
+          let leads : HasPath steps (get_or fpgas 0 0) b =
+          All-contains (HasPath steps (get_or fpgas 0 0)) fpgas b
           (told.0 t) there in
           path_to_walk board wires steps steps_are (get_or fpgas 0 0) leads.0 b leads.1),
       λ joins. told.1 (λ k d inside.

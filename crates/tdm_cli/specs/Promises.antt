@@ -49,10 +49,10 @@ abbrev pub Certifies : Files → Name → Board → Cert → Type 0
 Certifies files name board cert = (bytes : Bytes) × (get files name ≡ Some bytes)
     × (cert_of board bytes ≡ Ok cert)
 
--- a legal and tight solution with minimal trees, of at most the baseline's value, is written to one file, and a
--- valid certificate, whose bound is at least both floors, to another; unless the value is 0, some list of so many
--- rounds has no smaller value and no larger bound; both texts read back, and value and bound are said in such a
--- report
+-- a legal and tight solution with minimal trees, of at most the baseline's value, is written to one file, and
+-- a valid certificate, whose bound is at least both floors, to another; unless the value is 0, some list of
+-- so many rounds has no smaller value and no larger bound; both texts read back, and value and bound are said
+-- in such a report
 pub record IsWritten (board : Board) (files : Files) (solution cert : Name) (count : ℕ)
     (report : (value bound : ℕ) → Bytes) (before after : Seen) : Type 0 where
   pub routing : Routing

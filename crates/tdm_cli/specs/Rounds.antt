@@ -100,8 +100,8 @@ IsLastFit [] last = ⊥
 IsLastFit (round ∷ after) last = ((last ≡ round) × FitsUses round × All (λ r. ¬ FitsUses r) after)
     ⊎ IsLastFit after last
 
--- there is a list of so many rounds, the same for both, of whose rounds that fit none has a smaller value or a
--- larger bound; and the bound is at least the bound by growth of the last of them
+-- there is a list of so many rounds, the same for both, of whose rounds that fit none has a smaller value or
+-- a larger bound; and the bound is at least the bound by growth of the last of them
 pub record MeetsRounds (board : Board) (baseline : List (List ℕ)) (count value bound : ℕ) : Type 0 where
   pub rounds : List Round
   pub list : IsRoundList board baseline count rounds

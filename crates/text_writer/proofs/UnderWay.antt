@@ -24,7 +24,8 @@ take-front k a b = let le : min k (length a) ≤ length a = omega arith in
 take-behind : (k : ℕ) (a b : Bytes) → a ++ take k b ≡ take (length a + k) (a ++ b)
 take-behind k a b = sym (take-append-add a b k)
 
-module _ (slot : OutSlot) (text : Bytes) (before : Seen) (pending : Bytes) (between : Seen) (more : Bytes) where
+module _ (slot : OutSlot) (text : Bytes) (before : Seen) (pending : Bytes)
+    (between : Seen) (more : Bytes) where
   -- one piece after another
   both_under_way : (later : Bytes) (after : Seen)
       → IsUnderWay slot text before pending between → IsUnderWay slot (pending ++ more) between later after
@@ -143,7 +144,8 @@ module _ {D : Type 0} {seen : D → Seen} {counts : D → Counts} {steady : D �
       (stops_second first last).prefix
 
 -- what is pending is written, and nothing is pending any more
-pub adds_written : {D A : Type 0} (seen : D → Seen) {counts : D → Counts} {steady : D → Type 0} (slot : OutSlot)
+pub adds_written : {D A : Type 0} (seen : D → Seen) {counts : D → Counts} {steady : D → Type 0}
+    (slot : OutSlot)
     (pending : Bytes) {later : Bytes} {before after : D} (result : Result A DeskFault)
     → OnOk result (seen after ≡ written slot pending (seen before))
     → OnErr result (PrefixWritten slot pending (seen before) (seen after))
@@ -155,7 +157,8 @@ adds_written seen slot pending (Ok answer) ok err failed own counted none = reco
   counted = counted;
   uncounted = own;
 }
-adds_written {D} {A} seen {counts} {steady} slot pending {later} {before} {after} (Err fault) ok err failed own
+adds_written {D} {A} seen {counts} {steady} slot pending {later} {before} {after} (Err fault) ok
+    err failed own
     counted none = record {
       prefix = subst (λ (text : Bytes). PrefixWritten slot text (seen before) (seen after))
           (sym (append-nil pending)) err;
@@ -180,7 +183,8 @@ flat_map-split : {X : Type 0} (f : X → Bytes) (xs : List X) (i : ℕ)
 flat_map-split f xs i = sym (flat_map-append f (take i xs) (drop i xs))
     ∙ ap (flat_map f) (take-append-drop i xs)
 
-module _ {D : Type 0} {seen : D → Seen} {counts : D → Counts} {steady : D → Type 0} {slot : OutSlot} {X : Type 0}
+module _ {D : Type 0} {seen : D → Seen} {counts : D → Counts} {steady : D → Type 0} {slot : OutSlot}
+    {X : Type 0}
     (f : X → Bytes) (xs : List X) (i : ℕ) (d : X) (there : i < length xs) {pending rest later : Bytes}
     {before between after : D} where
   -- the text of one more
@@ -195,6 +199,7 @@ module _ {D : Type 0} {seen : D → Seen} {counts : D → Counts} {steady : D �
       → Stops seen counts steady slot (f (get_or xs i d)) rest fault between later after
       → Stops seen counts steady slot (flat_map f xs) pending fault before later after
   stops_more {fault} first second =
-      let so_far : Stops seen counts steady slot (flat_map f (take (i + 1) xs)) pending fault before later after =
+      let so_far : Stops seen counts steady slot (flat_map f (take (i + 1) xs)) pending fault
+      before later after =
       rw (flat_map-more f xs i d there) (stops_second first second) in
       rw (← flat_map-split f xs (i + 1)) (stops_first (flat_map f (drop (i + 1) xs)) so_far)

@@ -32,7 +32,8 @@ module _ {D : Type 0} (seen : D → Seen) (counts : D → Counts) (steady : D �
     pub uncounted : counts after ≡ counts before
 
   -- a fault, which was counted: of what was pending and of the text a prefix is written, and nothing pending
-  pub record Stops (text pending : Bytes) (fault : DeskFault) (before : D) (later : Bytes) (after : D) : Type 0 where
+  pub record Stops (text pending : Bytes) (fault : DeskFault) (before : D) (later : Bytes)
+      (after : D) : Type 0 where
     pub prefix : PrefixWritten slot (pending ++ text) (seen before) (seen after)
     pub emptied : later ≡ []
     pub counted : CountsFaults counts steady before after

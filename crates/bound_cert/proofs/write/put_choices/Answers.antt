@@ -14,5 +14,6 @@ returns-in_err-put_number g c =
     c.loop-choice.invariant c.in_err-put_number.ensures)
 
 pub loop-choice-preserved : goal.loop-choice-preserved
-loop-choice-preserved g c = brings_more number_line c.args.choices.now c.loop-choice.choice-index 0 (omega arith)
+loop-choice-preserved g c = brings_more number_line c.args.choices.now c.loop-choice.choice-index 0
+    (omega arith)
     c.loop-choice.invariant c.in_ok-put_number.ensures

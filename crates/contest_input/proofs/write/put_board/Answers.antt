@@ -32,7 +32,8 @@ pub returns-in_err-put_groups : goal.returns-in_err-put_groups
 returns-in_err-put_groups g c =
     let p = err_from_is_err_and c.from_residual-in_err-put_groups.result
     c.from_residual-in_err-put_groups.ensures.1 in
-    rw (p.1, p.2) (stops_second (brings_both (brings_both c.in_ok-put_header.ensures c.in_ok-put_wires.ensures)
+    rw (p.1, p.2) (stops_second (brings_both
+    (brings_both c.in_ok-put_header.ensures c.in_ok-put_wires.ensures)
     c.in_ok-put_nets.ensures) c.in_err-put_groups.ensures)
 
 pub returns : goal.returns

@@ -12,10 +12,12 @@ pub returns-in_err-put_wire : goal.returns-in_err-put_wire
 returns-in_err-put_wire g c =
     let p = err_from_is_err_and c.from_residual.result c.from_residual.ensures.1 in
     rw (p.1, p.2) (stops_more wire_line c.args.problem.now.wires c.loop-e.e c.wire.result (omega arith)
-    c.loop-e.invariant (rw (get_or_from_slice_get c.args.problem.now.wires c.loop-e.e c.wire.result c.wire.result
+    c.loop-e.invariant (rw (get_or_from_slice_get c.args.problem.now.wires
+    c.loop-e.e c.wire.result c.wire.result
     c.wire.ensures.there) c.in_err-put_wire.ensures))
 
 pub loop-e-preserved : goal.loop-e-preserved
 loop-e-preserved g c = brings_more wire_line c.args.problem.now.wires c.loop-e.e c.wire.result (omega arith)
-    c.loop-e.invariant (rw (get_or_from_slice_get c.args.problem.now.wires c.loop-e.e c.wire.result c.wire.result
+    c.loop-e.invariant (rw (get_or_from_slice_get c.args.problem.now.wires
+    c.loop-e.e c.wire.result c.wire.result
     c.wire.ensures.there) c.in_ok-put_wire.ensures)
