@@ -1,5 +1,5 @@
 //! How far nets are spread: by the potentials that they choose, or by their growth.
-ghost use Rattle.std.specs.Prelude.{◌≡◌, ◌+◌, ◌*◌, ◌<◌, ◌≤◌, ◌^◌, true, false, length, slice_index, sum, All, IfOk};
+ghost use Rattle.std.specs.Prelude.{◌≡◌, ◌+◌, ◌*◌, ◌<◌, ◌≤◌, true, false, length, slice_index, sum, All, IfOk};
 ghost use Rattle.tdm_problem.specs.Board.{IsBoard};
 ghost use Rattle.bound_cert.specs.Certificate.{IsCertFor, IsPotential};
 ghost use Rattle.bound_cert.specs.Bound.{spread, net_spread};

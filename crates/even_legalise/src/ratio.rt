@@ -1,5 +1,5 @@
 //! One ratio for all nets of a wire.
-ghost use Rattle.std.specs.Prelude.{◌≡◌, ◌^◌, ◌≤◌};
+ghost use Rattle.std.specs.Prelude.{◌≡◌, ◌≤◌};
 ghost use Rattle.tdm_problem.specs.Limits.{most_nets};
 ghost use Rattle.even_legalise.specs.Uniform.{uniform_ratio};
 

@@ -4,7 +4,7 @@
 //! terms then stand for, with the digits that were taken, is 2^32 times what they stood for before. So a sum
 //! of reciprocals is compared with a whole number digit by digit, and no product of ratios is formed.
 
-ghost use Rattle.std.specs.Prelude.{◌≡◌, ◌+◌, ◌*◌, ◌/◌, ◌%◌, ◌^◌, ◌<◌, ◌≤◌, All, length, map, sum_by, IsTrue, ◌↔◌};
+ghost use Rattle.std.specs.Prelude.{◌≡◌, ◌+◌, ◌*◌, ◌/◌, ◌%◌, ◌<◌, ◌≤◌, All, length, map, sum_by, IsTrue, ◌↔◌};
 ghost use Rattle.recip_sum.specs.LongDivision.{after_digit, digits_sum, item_count, numerator, ratios_of, IsTerm};
 ghost use Rattle.tdm_problem.specs.Fit.{product};
 

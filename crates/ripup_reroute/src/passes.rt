@@ -1,5 +1,5 @@
 //! Passes of turns.
-ghost use Rattle.std.specs.Prelude.{◌≡◌, ℕ, ◌<◌, ◌≤◌, ◌^◌, true, false, length, All, IfOk, OnOk};
+ghost use Rattle.std.specs.Prelude.{◌≡◌, ℕ, ◌<◌, ◌≤◌, true, false, length, All, IfOk, OnOk};
 ghost use Rattle.board_graph.specs.Graph.{board_of, graph_of};
 ghost use Rattle.tdm_problem.specs.Limits.{most_number};
 ghost use Rattle.tdm_problem.specs.Board.{IsBoard};

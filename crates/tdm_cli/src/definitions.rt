@@ -1,5 +1,5 @@
 //! The reports, the codes and two rounds, computed.
-ghost use Rattle.std.specs.Prelude.{◌≡◌, ◌+◌, ◌-◌, ◌*◌, ◌<◌, ◌^◌, [], ◌∷◌, codes, sum};
+ghost use Rattle.std.specs.Prelude.{◌≡◌, ◌+◌, ◌-◌, ◌*◌, ◌<◌, [], ◌∷◌, codes, sum};
 ghost use Rattle.tdm_problem.specs.Loads.{load_cost, marginal_length};
 ghost use Rattle.tdm_problem.specs.Roots.{IsRoot};
 ghost use Rattle.tdm_problem.specs.Samples.{star, use_at};
