@@ -11,7 +11,7 @@ ghost use Rattle.cert_checker.specs.Growing.{arcs_of, height_in, AreGoals, HasNe
 
 use crate::marked_list::MarkedList;
 use board_graph::BoardGraph;
-use shortest_forest::{ArcLengths, MOST_CAP, NoBound, Search, nearest_goal};
+use shortest_forest::{ArcLengths, MOST_CAP, Search, last_goal};
 use std::alloc::{AllocError, Global};
 use std::marker::Model;
 
@@ -361,7 +361,7 @@ fn reach_from(
     search.begin();
     search.add_source(x)?;
     let rests = Rests { up, down };
-    let Some(goal) = nearest_goal(search, graph, &rests, &NoBound, MOST_CAP)? else {
+    let Some(goal) = last_goal(search, graph, &rests, MOST_CAP)? else {
         return Ok(None);
     };
     Ok(search.distance(goal))

@@ -15,3 +15,4 @@ pub mod NearestLaws
 pub mod ForestLaws
 mod SampleParents
 pub mod ArcWays
+pub mod LastGoal

@@ -292,29 +292,33 @@ IsUnderWay-goals old new labels queue marks goals board arcs bound cap was =
 
 -- ---- caps fall and bounds rise
 
-no_shorter-falls : (s : Labels) (bound bound' : ℕ → ℕ) (cap cap' v d : ℕ) → bound v ≤ bound' v → cap' ≤ cap
-    → IsNoShorter s bound cap v d → IsNoShorter s bound' cap' v d
+pub no_shorter-falls : (s : Labels) (bound bound' : ℕ → ℕ) (cap cap' v d : ℕ) → bound v ≤ bound' v
+    → cap' ≤ cap → IsNoShorter s bound cap v d → IsNoShorter s bound' cap' v d
 no_shorter-falls s bound bound' cap cap' v d rises falls (inl near) = inl near
 no_shorter-falls s bound bound' cap cap' v d rises falls (inr far) = inr (omega (arith, far))
+
+pub waits_or_settled-falls : (board : Board) (arcs : Arcs) (bound bound' : ℕ → ℕ) (cap cap' : ℕ) (s : Labels)
+    → ((f : ℕ) → bound f ≤ bound' f) → cap' ≤ cap → (f d : ℕ) → IsWaitingOrSettled board arcs bound cap s f d
+    → IsWaitingOrSettled board arcs bound' cap' s f d
+waits_or_settled-falls board arcs bound bound' cap cap' s rises falls f d (inl waits) =
+    inl (waits.0, waits.1, omega (arith, waits.2, rises f))
+waits_or_settled-falls board arcs bound bound' cap cap' s rises falls f d (inr (inl far)) =
+    inr (inl (omega (arith, far, rises f, falls)))
+waits_or_settled-falls board arcs bound bound' cap cap' s rises falls f d (inr (inr settled)) =
+    inr (inr (
+      settled.0,
+      λ e v links. no_shorter-falls s bound bound' cap cap' v (d + arcs e f v) (rises v) falls
+          (settled.1 e v links),
+    ))
 
 pub IsUnderWay-falls : (board : Board) (arcs : Arcs) (bound bound' : ℕ → ℕ) (cap cap' : ℕ) (s : Labels)
     → ((f : ℕ) → bound f ≤ bound' f) → cap' ≤ cap → IsUnderWay board arcs bound cap s
     → IsUnderWay board arcs bound' cap' s
 IsUnderWay-falls board arcs bound bound' cap cap' s rises falls was = record {
   labelled = was.labelled;
-  settled = λ f d at. go f d (was.settled f d at);
+  settled = λ f d at.
+      waits_or_settled-falls board arcs bound bound' cap cap' s rises falls f d (was.settled f d at);
 }
-  where
-    go : (f d : ℕ) → IsWaitingOrSettled board arcs bound cap s f d
-        → IsWaitingOrSettled board arcs bound' cap' s f d
-    go f d (inl waits) = inl (waits.0, waits.1, omega (arith, waits.2, rises f))
-    go f d (inr (inl far)) = inr (inl (omega (arith, far, rises f, falls)))
-    go f d (inr (inr settled)) =
-        inr (inr (
-          settled.0,
-          λ e v links. no_shorter-falls s bound bound' cap cap' v (d + arcs e f v)
-              (rises v) falls (settled.1 e v links),
-        ))
 
 -- ---- the end of a search
 

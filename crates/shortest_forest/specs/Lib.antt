@@ -8,3 +8,4 @@ pub mod Stamps
 pub mod LeastForest
 pub mod Settled
 pub mod Laws
+pub mod LastGoal

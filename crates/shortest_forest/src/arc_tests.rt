@@ -1,7 +1,9 @@
 ghost use Rattle.std.specs.Prelude.{◌≡◌, ◌<◌, ◌≤◌, ◌-◌, ◌^◌, nat_lt, if◌then◌else◌};
 ghost use Rattle.std.proofs.Common.{rules};
 
-use crate::{ArcLengths, LowerBounds, MOST_CAP, NoBound, Search, nearest_goal, way_back};
+use crate::{
+    ArcLengths, LowerBounds, MOST_CAP, NoBound, Search, last_goal, nearest_goal, way_back,
+};
 use board_graph::BoardGraph;
 use std::alloc::{AllocError, Global};
 use tdm_problem::{ProblemDraft, Wire};
@@ -66,6 +68,49 @@ fn nearer_of_two<B: LowerBounds>(
     };
     way_back(&search, graph, goal, wires)?;
     Ok(search.distance(goal))
+}
+
+/// The distance of the nearer of two FPGAs from another, by a search that ends there, over the same arcs.
+/// None where neither is nearer than the cap.
+fn end_at_nearer(
+    alloc: Global,
+    graph: &BoardGraph,
+    from: u32,
+    goals: (u32, u32),
+    cap: u64,
+) -> Result<Option<u64>, AllocError>
+    requires few { graph.now.fpgas ≤ 4096 }
+    requires source { from < graph.now.fpgas }
+    requires first { goals.0 < graph.now.fpgas }
+    requires second { goals.1 < graph.now.fpgas }
+    requires cap { cap ≤ 2 ^ 64 - 2 ^ 51 }
+{
+    let _wires = graph.wires();
+    let mut search = Search::new(alloc, graph)?;
+    search.begin();
+    search.add_goal(goals.0);
+    search.add_goal(goals.1);
+    search.add_source(from)?;
+    let Some(goal) = last_goal(&mut search, graph, &Slope, cap)? else {
+        return Ok(None);
+    };
+    Ok(search.distance(goal))
+}
+
+#[test]
+fn a_search_ends_at_the_nearer_goal(rt: HostRuntime) {
+    let mut draft = ProblemDraft::new(rt.alloc(), 4);
+    assert!(rt; draft.push_wire(Wire { a: 0, b: 1 }).is_ok());
+    assert!(rt; draft.push_wire(Wire { a: 1, b: 2 }).is_ok());
+    assert!(rt; draft.push_wire(Wire { a: 2, b: 3 }).is_ok());
+    let graph = BoardGraph::of(rt.alloc(), &draft.into_problem()).expect(&rt, "memory");
+    assert_eq!(rt; graph.fpgas(), 4);
+    let near = end_at_nearer(rt.alloc(), &graph, 1, (0, 3), MOST_CAP);
+    assert!(rt; near.expect(&rt, "memory") == Some(2));
+    let back = end_at_nearer(rt.alloc(), &graph, 3, (0, 2), 6);
+    assert!(rt; back.expect(&rt, "memory") == Some(5));
+    let at_cap = end_at_nearer(rt.alloc(), &graph, 1, (0, 3), 2);
+    assert!(rt; at_cap.expect(&rt, "memory").is_none());
 }
 
 #[test]

@@ -10,6 +10,7 @@ mod breadth_first;
 mod definitions;
 mod hop_forest;
 mod label;
+mod last;
 mod laws;
 mod least;
 #[cfg(test)]
@@ -27,6 +28,7 @@ mod wire_ends;
 pub use baseline::{BaseTrees, base_tree};
 pub use hop_forest::{Forest, hops};
 pub use label::Label;
+pub use last::last_goal;
 pub use laws::{caps_may_fall, ways_back_are_walks};
 pub use least::{forest, settle_all};
 pub use lengths::{ArcLengths, BothWays, Lengths, LowerBounds, NoBound};

@@ -105,7 +105,7 @@ fn pass<A: ArcLengths, B: LowerBounds>(
 
 /// Gives an FPGA this distance and the wire by which the way enters it, if that is shorter than its label,
 /// and below the cap with the lower bound.
-fn reach<B: LowerBounds>(
+pub(crate) fn reach<B: LowerBounds>(
     search: &mut Search,
     fpga: u32,
     wire: u32,

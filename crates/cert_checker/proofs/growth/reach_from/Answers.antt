@@ -11,8 +11,8 @@ use Rattle.cert_checker.proofs.Reached.{reached, reaches-none}
 use Rattle.cert_checker.proofs.Rests.{arcs-small, goals-inside}
 use Rattle.cert_checker.proofs.growth.reach_from.Goals as goal
 
-pub nearest_goal-requires-clause-under_way : goal.nearest_goal-requires-clause-under_way
-nearest_goal-requires-clause-under_way c =
+pub last_goal-requires-clause-under_way : goal.last_goal-requires-clause-under_way
+last_goal-requires-clause-under_way c =
     let none : Option Label = None in
     let board = board_of c.args.graph.now in
     let arcs = arcs_of c.args.up.now c.args.down.now in
@@ -27,7 +27,7 @@ returns-in_default-clause-none c =
     let graph = c.args.graph.now in
     let board = board_of graph in
     let arcs = arcs_of c.args.up.now c.args.down.now in
-    let s = c.nearest_goal.new.search in
+    let s = c.last_goal.new.search in
     let begun = one_source (length c.args.search.now.labels) c.args.x c.begin.new.self c.add_source.new.self
     c.begin.ensures.labels c.in_ok-add_source.ensures.labels (omega (
       arith,
@@ -36,18 +36,18 @@ returns-in_default-clause-none c =
     )) in
     let source = (c.in_ok-goal.ensures.sources c.args.x).1 begun.0 in
     let far = rw c.in_default.is at c.in_ok-goal.ensures.far in
-    reaches-none board arcs (2 ^ 64 - 2 ^ 51) c.args.x s c.in_ok-goal.ensures.under_way source
+    reaches-none board arcs (2 ^ 64 - 2 ^ 51) c.args.x s far.under_way source
     (λ f is. begun.1 f ((c.in_ok-goal.ensures.sources f).0 is))
     (omega arith) c.requires.graph.fpga_limit (links-inside board c.requires.graph.wires)
-    (λ f goal. omega (arith, goals-inside s.goals f goal, c.in_ok-goal.ensures.under_way.labelled.marks))
+    (λ f goal. omega (arith, goals-inside s.goals f goal, far.under_way.labelled.marks))
     (λ e a b links. arcs-small c.args.up.now c.args.down.now c.requires.up_small c.requires.down_small e a b)
-    far
+    far.far
 
 pub returns-clause-reached : goal.returns-clause-reached
 returns-clause-reached c =
     let board = board_of c.args.graph.now in
     let arcs = arcs_of c.args.up.now c.args.down.now in
-    let s = c.nearest_goal.new.search in
+    let s = c.last_goal.new.search in
     let begun = one_source (length c.args.search.now.labels) c.args.x c.begin.new.self c.add_source.new.self
     c.begin.ensures.labels c.in_ok-add_source.ensures.labels (omega (
       arith,
@@ -55,8 +55,9 @@ returns-clause-reached c =
       c.requires.labels,
     )) in
     let source = (c.in_ok-goal.ensures.sources c.args.x).1 begun.0 in
-    let near = rw c.in-Some.is at c.in_ok-goal.ensures.found in
+    let ended = rw c.in-Some.is at c.in_ok-goal.ensures.found in
+    let near = ended.nearest in
     let at : c.distance.result ≡ Some near.distance = c.distance.ensures ∙ ap distance_in near.label.1 in
     subst (λ (found : Option ℕ). IfSome found (HasReached board arcs c.args.x s)) (sym at)
-    (reached board arcs (2 ^ 64 - 2 ^ 51) c.args.x s c.in_ok-goal.ensures.under_way source
+    (reached board arcs ended.limit c.args.x s ended.under_way source
     (λ f is. begun.1 f ((c.in_ok-goal.ensures.sources f).0 is)) c.in-Some.goal near)

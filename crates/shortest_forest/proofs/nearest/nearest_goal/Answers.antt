@@ -1,4 +1,4 @@
-use Rattle.std.proofs.Common.{◌≡◌, ℕ, ◌+◌, ◌-◌, ◌<◌, ◌≤◌, ◌^◌, true, false, length, refl, sym, ap, ◌∙◌, arith}
+use Rattle.std.proofs.Common.{◌≡◌, ◌+◌, ◌<◌, ◌^◌, true, false, length, refl, sym, ap, ◌∙◌, arith}
 use Rattle.board_graph.specs.Graph.{board_of}
 use Rattle.shortest_forest.proofs.Passing.{IsUnderWay-needless, IsUnderWay-taken, IsUnderWay-queued, IsPassing-taken, taken_work, queued_work, GoesOn-taken, GoesOn-queued, GoesOn-trans}
 use Rattle.shortest_forest.proofs.NearestLaws.{front_waits, label-read, AreFar-made, IsNearest-made}
