@@ -65,7 +65,8 @@ def main():
             of_part = {}
             for fpga in sorted(net):
                 of_part.setdefault(part[fpga], []).append(fpga)
-            told = [f"{ranges(fpgas)} in part {it}" for it, fpgas in sorted(of_part.items())]
+            places = [f"in part {it}" if len(members[it]) > 1 else "without a wire" for it in range(parts)]
+            told = [f"{ranges(fpgas)} {places[it]}" for it, fpgas in sorted(of_part.items())]
             print(f"net {number}: {', '.join(told)}")
     return 0
 

@@ -7,9 +7,10 @@ A wire is the redder the fuller it is (the sum of the reciprocals of its ratios)
 grey where none does. The nets of the worst group, whose sum is the value, are marked: a blue line along each wire that
 they use, and a blue ring around their FPGAs. A browser shows the numbers of a wire or an FPGA under the pointer. Up to
 300 FPGAs are placed so that wires are short, more on a circle in the order of their numbers. Sums are in floating point
-here; `tdm eval` is the judge.
+here; `tdm eval` is the judge. OUT.svg is written only once all is drawn, and may be neither of the two texts.
 """
 import math
+import os
 import sys
 
 from board_text import read_board, read_solution
@@ -135,9 +136,16 @@ def main():
     if len(sys.argv) != 4:
         print(__doc__, file=sys.stderr)
         return 2
-    board = read_board(sys.argv[1])
-    with open(sys.argv[3], "w", encoding="ascii") as out:
-        out.write(drawing(board, read_solution(sys.argv[2], board)))
+    *texts, out_name = sys.argv[1:]
+    if os.path.exists(out_name) and any(os.path.exists(it) and os.path.samefile(it, out_name) for it in texts):
+        sys.exit(f"{out_name}: this is the board or the solution, which stays as it is")
+    board = read_board(texts[0])
+    drawn = drawing(board, read_solution(texts[1], board))
+    try:
+        with open(out_name, "w", encoding="ascii") as out:
+            out.write(drawn)
+    except OSError as error:
+        sys.exit(f"{out_name}: {error.strerror}")
     return 0
 
 

@@ -71,7 +71,7 @@ class Components(unittest.TestCase):
                 "parts 4",
                 "part 1: 2 FPGAs, 1 wires: 1-2",
                 "without a wire: 0, 3-4",
-                "net 0: 0 in part 0, 3 in part 2, 4 in part 3",
+                "net 0: 0 without a wire, 3 without a wire, 4 without a wire",
             ]
             self.assertEqual(ran("components.py", board), (0, "\n".join(wanted) + "\n"))
 
@@ -130,6 +130,18 @@ class Picture(unittest.TestCase):
 
     def test_a_board_without_groups_is_drawn(self):
         self.assertTrue(self.drawn("one_fpga"))
+
+    def test_nothing_is_written_where_nothing_is_drawn(self):
+        with tempfile.TemporaryDirectory() as folder:
+            board, solution = Path(folder) / "board", Path(folder) / "solution"
+            shutil.copy(example("star.board"), board)
+            shutil.copy(example("star.solution"), solution)
+            for words in [(board, solution, board), (board, solution, solution), (solution, board, Path(folder) / "out")]:
+                self.assertEqual(ran("picture.py", *words)[0], 1, words)
+            self.assertEqual(ran("picture.py", board, solution, Path(folder) / "none" / "out.svg")[0], 1)
+            self.assertEqual(board.read_bytes(), example("star.board").read_bytes())
+            self.assertEqual(solution.read_bytes(), example("star.solution").read_bytes())
+            self.assertEqual(len(list(Path(folder).iterdir())), 2)
 
 
 class Reached(unittest.TestCase):
