@@ -1,7 +1,6 @@
 -- How FPGAs grow, one after another.
-use Rattle.std.proofs.Common.{◌≡◌, ◌≢◌, ℕ, zero, suc, ◌+◌, ◌^◌, ◌<◌, ◌≤◌, ◌⊎◌, Bool, true, false, cond, List, [], ◌∷◌, length, drop, get_or, set, get_or-set_same, get_or-set_other, refl, sym, ap, ◌∙◌, subst, inl, inr, ⊎_elim, arith}
-use Rattle.std.specs.Prelude.{AllPairs, Contains, ◌↔◌, slice_index, nat_lt, IfOk, Result, Ok, Err}
-use Rattle.std.specs.declared.alloc.AllocError.{AllocError}
+use Rattle.std.proofs.Common.{◌≡◌, ◌≢◌, ℕ, zero, suc, ◌+◌, ◌^◌, ◌<◌, ◌≤◌, ◌⊎◌, Bool, true, false, cond, Option, Some, None, List, [], ◌∷◌, length, drop, get_or, set, get_or-set_same, get_or-set_other, refl, sym, ap, ◌∙◌, subst, inl, inr, ⊎_elim, arith}
+use Rattle.std.specs.Prelude.{AllPairs, Contains, ◌↔◌, slice_index, nat_lt, unwrap_or, IfSome, IfNone}
 use Rattle.std.proofs.lemmas.Bool.{cases_eq, cases_lt, false≢true}
 use Rattle.std.proofs.lemmas.List.{get_or_past, get_or_default, get_or-drop, drop_more, length-drop, length-set}
 use Rattle.std.proofs.Math.ListN.{drop_of_length-le}
@@ -9,9 +8,9 @@ use Rattle.tdm_problem.specs.Board.{Board}
 use Rattle.tdm_problem.specs.Walk.{IsConnectable}
 use Rattle.shortest_forest.specs.Arcs.{Arcs, IsGoal, both_ways}
 use Rattle.shortest_forest.specs.Labels.{Labels}
-use Rattle.bound_cert.specs.Growth.{worn, GrowOver, IsGrowth}
+use Rattle.bound_cert.specs.Growth.{worn, GrowOver, IsGrowth, IsHeight, IsReach}
 use Rattle.bound_cert.proofs.OneGrowth.{Agree, walk-agree, agree-back}
-use Rattle.cert_checker.specs.Growing.{arcs_of, height_in, AreGoals, HasReached, IsWorn, IsGrowing, ReachesNone}
+use Rattle.cert_checker.specs.Growing.{arcs_of, AreGoals, IsWorn, IsGrowing, ReachesNone}
 
 module _ (board : Board) where
   -- FPGAs grow alike where the rests are the same along wires
@@ -51,24 +50,20 @@ module _ (board : Board) where
       )
 
   -- one FPGA grew, and others are to grow over what it left
-  pub grow-first : (root x : ℕ) (more : List ℕ) (rests other : Arcs) (s : Labels) (reach rest : ℕ)
-      → HasReached board rests x s reach → AreGoals (root ∷ more) s.goals →
-      IsWorn board (height_in s reach) rests other ⊎ (more ≡ []) → GrowOver board root more other rest
+  pub grow-first : (root x : ℕ) (more : List ℕ) (rests other : Arcs) (heights : ℕ → ℕ) (reach rest : ℕ)
+      → IsReach board rests x (root ∷ more) reach → ((f : ℕ) → IsHeight board rests x reach f (heights f))
+      → IsWorn board heights rests other ⊎ (more ≡ []) → GrowOver board root more other rest
       → GrowOver board root (x ∷ more) rests (reach + rest)
-  grow-first root x more rests other s reach rest reached goals wore grows = (
-    reach,
-    reached.reaches (root ∷ more) goals,
-    (height_in s reach, reached.heights, (rest, after wore, refl)),
-  )
+  grow-first root x more rests other heights reach rest reached are wore grows =
+      (reach, reached, (heights, are, (rest, after wore, refl)))
     where
-      after : IsWorn board (height_in s reach) rests other ⊎ (more ≡ [])
-          → GrowOver board root more (worn rests (height_in s reach)) rest
-      after (inl worn') = grow-agree root more other (worn rests (height_in s reach)) worn' rest grows
+      after : IsWorn board heights rests other ⊎ (more ≡ [])
+          → GrowOver board root more (worn rests heights) rest
+      after (inl worn') = grow-agree root more other (worn rests heights) worn' rest grows
       after (inr none) =
           let last : GrowOver board root [] other rest =
           subst (λ (xs : List ℕ). GrowOver board root xs other rest) none grows in
-          subst (λ (xs : List ℕ). GrowOver board root xs (worn rests (height_in s reach)) rest)
-          (sym none) last
+          subst (λ (xs : List ℕ). GrowOver board root xs (worn rests heights) rest) (sym none) last
 
 -- a goal less
 goals-less : (live : List ℕ) (x : ℕ) (goals : List Bool)
@@ -143,25 +138,27 @@ module _ (root : ℕ) (growing : List ℕ) (i : ℕ) (below : i < length growing
       ))
       (absent distinct))
 
-  pub IsGrowing-more : (board : Board) (start rests other : Arcs) (s : Labels) (goals : List Bool)
-      (growth reach : ℕ) → IsGrowing board root growing start i growth rests goals →
-      HasReached board rests x-of s reach → AreGoals (root ∷ drop (i + 1) growing) s.goals → reach < 2 ^ 64
-      → (i + 1 < length growing → IsWorn board (height_in s reach) rests other) →
-      IsGrowing board root growing start (i + 1) (growth + reach) other s.goals
-  IsGrowing-more board start rests other s goals growth reach before reached are small wore = record {
-    goals_are = are;
-    follows = λ rest grows.
-        let unfolded : drop i growing ≡ x-of ∷ drop (i + 1) growing = drop_more growing i 0 below in
-        let first = grow-first board root x-of (drop (i + 1) growing) rests other s reach rest reached are
-        wears grows in
-        let sum : growth + (reach + rest) ≡ (growth + reach) + rest = omega arith in
-        subst (λ (g : ℕ). GrowOver board root growing start g) sum
-        (before.follows (reach + rest) (subst (λ (xs : List ℕ). GrowOver board root xs rests (reach + rest))
-        (sym unfolded) first));
-    small = omega (arith, before.small, small);
-  }
+  pub IsGrowing-more : (board : Board) (start rests other : Arcs) (heights : ℕ → ℕ) (goals new : List Bool)
+      (growth reach : ℕ) → IsGrowing board root growing start i growth rests goals
+      → IsReach board rests x-of (root ∷ drop (i + 1) growing) reach
+      → ((f : ℕ) → IsHeight board rests x-of reach f (heights f)) → AreGoals (root ∷ drop (i + 1) growing) new
+      → reach < 2 ^ 64 → (i + 1 < length growing → IsWorn board heights rests other)
+      → IsGrowing board root growing start (i + 1) (growth + reach) other new
+  IsGrowing-more board start rests other heights goals new growth reach before reached high are small wore =
+      record {
+        goals_are = are;
+        follows = λ rest grows.
+            let unfolded : drop i growing ≡ x-of ∷ drop (i + 1) growing = drop_more growing i 0 below in
+            let first = grow-first board root x-of (drop (i + 1) growing) rests other heights reach rest
+            reached high wears grows in
+            let sum : growth + (reach + rest) ≡ (growth + reach) + rest = omega arith in
+            subst (λ (g : ℕ). GrowOver board root growing start g) sum
+            (before.follows (reach + rest) (subst (λ (xs : List ℕ). GrowOver board root xs rests (reach + rest))
+            (sym unfolded) first));
+        small = omega (arith, before.small, small);
+      }
     where
-      wears : IsWorn board (height_in s reach) rests other ⊎ (drop (i + 1) growing ≡ [])
+      wears : IsWorn board heights rests other ⊎ (drop (i + 1) growing ≡ [])
       wears = ⊎_elim
           (λ (less : i + 1 < length growing). inl (wore less))
           (λ (past : length growing ≤ i + 1). inr (drop_of_length-le growing past))
@@ -178,14 +175,17 @@ module _ (root : ℕ) (growing : List ℕ) (i : ℕ) (below : i < length growing
       ) in
       none root walk.0 ((are root).1 (0, omega arith, refl)) walk.1
 
--- before the first grows
-pub IsGrowing-none : (board : Board) (root : ℕ) (growing : List ℕ) (rests : Arcs) (goals : List Bool)
-    → AreGoals (root ∷ growing) goals → IsGrowing board root growing rests 0 0 rests goals
-IsGrowing-none board root growing rests goals are = record {
+-- once the first grew
+pub IsGrowing-first : (board : Board) (root first : ℕ) (later : List ℕ) (rests other : Arcs) (heights : ℕ → ℕ)
+    (goals : List Bool) (reach : ℕ) → IsReach board rests first (root ∷ later) reach
+    → ((f : ℕ) → IsHeight board rests first reach f (heights f)) → AreGoals (root ∷ later) goals
+    → reach < 2 ^ 64 → IsWorn board heights rests other
+    → IsGrowing board root (first ∷ later) rests 1 reach other goals
+IsGrowing-first board root first later rests other heights goals reach reached high are small wore = record {
   goals_are = are;
-  follows = λ rest grows. (let sum : rest ≡ 0 + rest = omega arith in
-      subst (λ (g : ℕ). GrowOver board root growing rests g) sum grows);
-  small = omega arith;
+  follows = λ rest grows.
+      grow-first board root first later rests other heights reach rest reached high (inl wore) grows;
+  small = omega (arith, small);
 }
 
 -- once nothing is to grow
@@ -222,16 +222,35 @@ even-arcs board lengths e from to links = go (nat_lt from to)
     go false = refl
 
 -- what grew over whole lengths is the growth
-pub growth-ok : (board : Board) (lengths up down : List ℕ) (root : ℕ) (growing : List ℕ) → up ≡ lengths
-    → down ≡ lengths → (grown : Result ℕ AllocError) →
-    IfOk grown (λ growth. (GrowOver board root growing (arcs_of up down) growth)
-    ⊎ ((growth ≡ 0) × ¬ IsConnectable board (root ∷ growing))) →
-    IfOk grown (IsGrowth board (slice_index lengths) (root ∷ growing))
-growth-ok board lengths up down root growing is_up is_down (Err none) grew = grew
-growth-ok board lengths up down root growing is_up is_down (Ok growth) (inr none) = inr none
-growth-ok board lengths up down root growing is_up is_down (Ok growth) (inl grows) =
-    let over' : GrowOver board root growing (arcs_of lengths lengths) growth =
-    subst (λ (us : List ℕ). GrowOver board root growing (arcs_of us lengths) growth) is_up
-    (subst (λ (ds : List ℕ). GrowOver board root growing (arcs_of up ds) growth) is_down grows) in
+pub growth-ok : (board : Board) (lengths : List ℕ) (root : ℕ) (growing : List ℕ) (growth : ℕ)
+    → GrowOver board root growing (arcs_of lengths lengths) growth
+    → IsGrowth board (slice_index lengths) (root ∷ growing) growth
+growth-ok board lengths root growing growth grows =
     inl (grow-agree board root growing (arcs_of lengths lengths) (both_ways (slice_index lengths))
-    (even-arcs board lengths) growth over')
+    (even-arcs board lengths) growth grows)
+
+-- so is what grew as far as wires join the FPGAs
+pub grown-ok : (board : Board) (lengths up down : List ℕ) (root : ℕ) (growing : List ℕ) → up ≡ lengths
+    → down ≡ lengths → (found : Option ℕ) → IfSome found (GrowOver board root growing (arcs_of up down))
+    → IfNone found (¬ IsConnectable board (root ∷ growing))
+    → IsGrowth board (slice_index lengths) (root ∷ growing) (unwrap_or found 0)
+grown-ok board lengths up down root growing is_up is_down None grows apart = inr (refl, apart)
+grown-ok board lengths up down root growing is_up is_down (Some growth) grows apart =
+    growth-ok board lengths root growing growth
+    (subst (λ (us : List ℕ). GrowOver board root growing (arcs_of us lengths) growth) is_up
+    (subst (λ (ds : List ℕ). GrowOver board root growing (arcs_of up ds) growth) is_down grows))
+
+-- where one alone grows, its reach is all
+pub alone-ok : (board : Board) (lengths : List ℕ) (root first : ℕ) (later : List ℕ) (heights : ℕ → ℕ)
+    (reach : ℕ) → later ≡ [] → IsReach board (arcs_of lengths lengths) first (root ∷ later) reach
+    → ((f : ℕ) → IsHeight board (arcs_of lengths lengths) first reach f (heights f))
+    → IsGrowth board (slice_index lengths) (root ∷ first ∷ later) reach
+alone-ok board lengths root first later heights reach none reached are =
+    let rests = arcs_of lengths lengths in
+    let nothing : GrowOver board root [] rests 0 = refl in
+    let last : GrowOver board root later rests 0 =
+    subst (λ (xs : List ℕ). GrowOver board root xs rests 0) (sym none) nothing in
+    let grows = grow-first board root first later rests rests heights reach 0 reached are (inr none) last in
+    let sum : reach + 0 ≡ reach = omega arith in
+    growth-ok board lengths root (first ∷ later) reach
+    (subst (λ (g : ℕ). GrowOver board root (first ∷ later) rests g) sum grows)

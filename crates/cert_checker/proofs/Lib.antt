@@ -5,6 +5,7 @@ pub mod RootSums
 pub mod AnswerLaws
 pub mod Rests
 pub mod Reached
+pub mod Distances
 pub mod Wearing
 pub mod GrowingLaws
 pub mod MarkedListLaws

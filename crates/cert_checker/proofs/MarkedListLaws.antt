@@ -1,16 +1,14 @@
 -- Numbers are marked as they are listed.
-use Rattle.std.proofs.Common.{◌≡◌, ◌≢◌, ℕ, ◌+◌, ◌<◌, ◌≤◌, ◌⊎◌, Bool, true, false, Option, None, Some, List, [], ◌∷◌, ◌++◌, length, get_or, set, replicate, get_or-set_same, get_or-set_other, append_assoc, refl, sym, ap, ◌∙◌, subst, inl, inr, ⊎_elim, arith}
-use Rattle.std.specs.Prelude.{All, AllPairs, Contains, slice_get}
+use Rattle.std.proofs.Common.{◌≡◌, ◌≢◌, ℕ, ◌<◌, ◌≤◌, ◌⊎◌, Bool, true, false, Option, None, Some, List, [], ◌∷◌, ◌++◌, length, get_or, set, replicate, get_or-set_same, get_or-set_other, append_assoc, sym, ap, ◌∙◌, subst, inl, inr, ⊎_elim, arith}
+use Rattle.std.specs.Prelude.{AllPairs, Contains, slice_get}
 use Rattle.std.proofs.lemmas.Option.{slice_get-get_or}
 use Rattle.std.proofs.lemmas.Bool.{cases_eq, cases_lt, false≢true}
 use Rattle.std.proofs.lemmas.List.{length-set, get_or-replicate, get_or_past, get_or_default, length-replicate, append-nil}
 use Rattle.std.proofs.lemmas.List.Quantifiers.{all_pairs_push}
 use Rattle.std.proofs.lemmas.List.Elements.{Contains-append_left, Contains-push, Contains-push_cases, All-nil, All-push}
 use Rattle.shortest_forest.specs.Arcs.{IsGoal}
-use Rattle.shortest_forest.specs.Labels.{Labels}
 use Rattle.steiner_build.specs.Joining.{HasNoGoals}
 use Rattle.steiner_build.proofs.JoiningLaws.{goal-or-not}
-use Rattle.cert_checker.specs.Growing.{AreGoals}
 use Rattle.cert_checker.specs.MarkedLists.{AreMarked, IsAdded, IsLonger}
 
 -- nothing is listed where nothing is marked

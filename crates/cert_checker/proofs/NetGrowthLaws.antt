@@ -1,6 +1,6 @@
 -- Nets are marked, sorted and grown.
-use Rattle.std.proofs.Common.{◌≡◌, ◌≢◌, ℕ, ◌+◌, ◌<◌, ◌≤◌, ◌⊎◌, List, [], ◌∷◌, ◌++◌, Some, length, get_or, replicate, set, get_or-set_same, get_or-set_other, refl, sym, ap, ◌∙◌, subst, inl, inr, ⊎_elim, arith}
-use Rattle.std.specs.Prelude.{slice_get, slice_index, All, AllPairs, Contains, IsPermutation}
+use Rattle.std.proofs.Common.{◌≡◌, ◌≢◌, ℕ, ◌+◌, ◌<◌, ◌≤◌, ◌⊎◌, List, [], ◌∷◌, ◌++◌, Some, length, replicate, set, get_or-set_same, get_or-set_other, sym, ap, ◌∙◌, subst, inl, inr, ⊎_elim, arith}
+use Rattle.std.specs.Prelude.{slice_get, slice_index, AllPairs, IsPermutation}
 use Rattle.std.specs.List.Sorted.{IsSorted}
 use Rattle.std.specs.Ordering.{nat_cmp}
 use Rattle.std.proofs.lemmas.Bool.{cases_eq, cases_lt}
@@ -40,32 +40,24 @@ module _ (weights : List ℕ) where
           absurd (omega (arith, weighs, low, ap (λ (j : ℕ). slice_index weights j) even))
       go k less weighs (inr differ) = are.whole k (omega (arith, less, differ)) weighs
 
-  pub AreMarkedNets-more : (n mark : ℕ) (marks : List SetMark) → n < length weights
-      → slice_index weights n ≢ 0 → AreMarkedNets weights n marks →
-      AreMarkedNets weights (n + 1) (marks ++ record { mark = mark; net = n } ∷ [])
-  AreMarkedNets-more n mark marks below weighty are = record {
-    weighed = All-push (λ (m : SetMark). (m.net < length weights) × (0 < slice_index weights m.net)) marks new
-        are.weighed (below, omega (arith, weighty));
+  pub AreMarkedNets-more : (n : ℕ) (mark : SetMark) (marks : List SetMark) → mark.net ≡ n → n < length weights
+      → slice_index weights n ≢ 0 → AreMarkedNets weights n marks
+      → AreMarkedNets weights (n + 1) (marks ++ mark ∷ [])
+  AreMarkedNets-more n mark marks of below weighty are = record {
+    weighed = All-push (λ (m : SetMark). (m.net < length weights) × (0 < slice_index weights m.net)) marks mark
+        are.weighed (
+          omega (arith, below, of),
+          omega (arith, weighty, ap (λ (k : ℕ). slice_index weights k) of),
+        );
     whole = λ k less weighs. go k less weighs (cases_eq k n);
   }
     where
-      new : SetMark
-      new = record { mark = mark; net = n }
-
       go : (k : ℕ) → k < n + 1 → 0 < slice_index weights k → (k ≡ n) ⊎ (k ≡ n → ⊥)
-          → HasNet (marks ++ record { mark = mark; net = n } ∷ []) k
-      go k less weighs (inl even) = (
-        mark,
-        subst (λ (j : ℕ). Contains (marks ++ record { mark = mark; net = n } ∷ [])
-            (record { mark = mark; net = j })) (sym even)
-            (Contains-push marks (record { mark = mark; net = n })),
-      )
+          → HasNet (marks ++ mark ∷ []) k
+      go k less weighs (inl even) = (mark, Contains-push marks mark, of ∙ sym even)
       go k less weighs (inr differ) =
-          let before = are.whole k (omega (arith, less, differ)) weighs in (
-            before.0,
-            Contains-append_left marks (record { mark = mark; net = n } ∷ [])
-                (record { mark = before.0; net = k }) before.1,
-          )
+          let before = are.whole k (omega (arith, less, differ)) weighs in
+          (before.0, Contains-append_left marks (mark ∷ []) before.0 before.1, before.2)
 
   pub weighed-sorted : (n : ℕ) (marks sorted : List SetMark) → IsPermutation marks sorted
       → AreMarkedNets weights n marks → AreWeighed weights sorted
@@ -77,7 +69,7 @@ module _ (weights : List ℕ) where
       (k : ℕ) → k < n → 0 < slice_index weights k → HasNet sorted k
   whole-sorted n marks sorted moved are k below weighs =
       let has = are.whole k below weighs in
-      (has.0, Contains-permutation marks sorted (record { mark = has.0; net = k }) moved has.1)
+      (has.0, Contains-permutation marks sorted has.0 moved has.1, has.2)
 
 -- the nets of the first i marks are grown, and those without weight have the number 0
 pub record AreGrown (board : Board) (wire_length : ℕ → ℕ) (weights : List ℕ) (marks : List SetMark) (i : ℕ)
@@ -145,9 +137,9 @@ module _ (board : Board) (wire_length : ℕ → ℕ) (weights : List ℕ) (marks
     whole = are.whole;
     each = λ n below weighs.
         let found = has n below weighs in
-        are.each found.1.0 (record { mark = found.0; net = n }) (omega (arith, found.1.1, past))
-        (slice_get-get_or marks found.1.0 (record { mark = found.0; net = n }) found.1.1
-        ∙ ap (λ (m : SetMark). Some m) found.1.2);
+        subst (λ (k : ℕ). IsNetGrowth board wire_length k (slice_index growths k)) found.2
+        (are.each found.1.0 found.0 (omega (arith, found.1.1, past))
+        (slice_get-get_or marks found.1.0 found.0 found.1.1 ∙ ap (λ (m : SetMark). Some m) found.1.2));
     none = are.none;
   }
 

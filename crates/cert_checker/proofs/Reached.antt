@@ -4,14 +4,16 @@ use Rattle.std.specs.Prelude.{reverse}
 use Rattle.std.proofs.lemmas.Bool.{cases_lt}
 use Rattle.tdm_problem.specs.Board.{Board}
 use Rattle.tdm_problem.specs.Walk.{Links, IsWalk, AnyWire}
+use Rattle.tdm_problem.proofs.Walks.{AnyWire-from_links}
 use Rattle.shortest_forest.specs.declared.label.Label.{Label}
 use Rattle.shortest_forest.specs.Arcs.{Arcs, IsArcWalk, IsGoal}
 use Rattle.shortest_forest.specs.Labels.{Labels, label_at, IsAtLabel, IsSource, IsWaiting, IsWaitingOrSettled, IsNoShorter, IsUnderWay, IsNearest, AreFar}
 use Rattle.shortest_forest.proofs.ArcWays.{way-law, nearest-way-law}
+use Rattle.shortest_forest.proofs.UnderWay.{label_below}
 use Rattle.shortest_forest.proofs.WayLaws.{way_back-source}
 use Rattle.steiner_build.proofs.LengthLaws.{walk-few}
 use Rattle.steiner_build.specs.Laws.{StaysInside}
-use Rattle.cert_checker.specs.Growing.{height_of, height_in, HasReached, ReachesNone}
+use Rattle.cert_checker.specs.Growing.{height_of, height_in, HasDistances, HasReached, ReachesNone}
 
 module _ (board : Board) (arcs : Arcs) (cap x : ℕ) (s : Labels)
     (search : IsUnderWay board arcs (λ _. 0) cap s) (root : IsSource s x) (only : (f : ℕ) → IsSource s f
@@ -152,3 +154,67 @@ module _ (board : Board) (arcs : Arcs) (cap x : ℕ) (s : Labels)
         root,
       ) goal way.1 in
       omega (arith, most, least, way.2, short.2, few)
+
+  -- a walk over arcs is one over wires
+  wire-walk : (a : ℕ) (es : List ℕ) (b total : ℕ) → IsArcWalk board arcs a es b total
+      → IsWalk board (AnyWire board) a es b
+  wire-walk a [] b total walk = walk.0
+  wire-walk a (e ∷ es) b total walk = (
+    AnyWire-from_links board e a walk.0 walk.1,
+    (walk.0, walk.1, wire-walk walk.0 es b walk.2.0 walk.2.1),
+  )
+
+  -- once all is settled that is nearer than the cap, all are labelled that wires lead to
+  module _ (most : cap ≡ 2 ^ 64 - 2 ^ 51) (few : board.fpgas ≤ 4096) (inside : StaysInside board)
+      (small : (e a b : ℕ) → Links board e a b → arcs e a b ≤ 2 ^ 51)
+      (far : AreFar board arcs (λ _. 0) cap s) where
+    waiting : (reach : ℕ) → reach ≤ cap → (f d : ℕ) → IsWaiting s f d → reach ≤ d
+    waiting reach within f d waits = omega (arith, within, far.nearer_settled f d waits)
+
+    high : (f : ℕ) (es : List ℕ) → f < board.fpgas → IsWalk board (AnyWire board) x es f
+        → 0 < height_in s cap f
+    high f es below walk =
+        let short = walk-few board inside x es f below walk in
+        let way = arc-walk small x short.0 f short.1 in
+        omega (
+          arith,
+          most,
+          few,
+          short.2,
+          way.2,
+          height-enough cap (omega arith) (waiting cap (omega arith)) short.0 f way.0 way.1,
+        )
+
+    there : (f : ℕ) (label : Option Label) → label_at s f ≡ label → 0 < height_in s cap f
+        → (d : ℕ) × IsAtLabel s f d
+    there f None is up =
+        absurd (omega (arith, up, ap (λ (l : Option Label). height_of l cap) is))
+    there f (Some label) is up = (label.distance, (label.wire, is))
+
+    below : (f d : ℕ) → IsAtLabel s f d → d < cap
+    below f d at =
+        let back = search.labelled.back f d at in
+        let source = back.1.0 in
+        let way = way-law board arcs s search.labelled f d back.0 source at back.1.1 in
+        let same : source ≡ x = only source (way_back-source board s f back.0 source back.1.1) in
+        let walk : IsArcWalk board arcs x (reverse back.0) f way.0 =
+        subst (λ (a : ℕ). IsArcWalk board arcs a (reverse back.0) f way.0) same way.1 in
+        let labelled : f < board.fpgas = omega (
+          arith,
+          label_below s f d at,
+          search.labelled.count,
+        ) in
+        let up = high f (reverse back.0) labelled (wire-walk x (reverse back.0) f way.0 walk) in
+        omega (arith, up, ap (λ (l : Option Label). height_of l cap) at.1)
+
+    pub distances : HasDistances board arcs x s
+    distances = record {
+      there = λ f es inside walk. there f (label_at s f) refl (high f es inside walk);
+      below = λ f d at. omega (arith, most, below f d at);
+      heights = λ reach f within.
+          let less : reach ≤ cap = omega (arith, most, within) in
+          record {
+            enough = λ es total walk. height-enough reach less (waiting reach less) es f total walk;
+            exact = height-exact reach less (waiting reach less) f;
+          };
+    }

@@ -1,6 +1,5 @@
 -- Growth depends on the wires of a board alone.
 use Rattle.std.proofs.Common.{◌≡◌, ℕ, ◌+◌, ◌⊎◌, List, [], ◌∷◌, sym, inl, inr}
-use Rattle.std.specs.Prelude.{Contains}
 use Rattle.tdm_problem.specs.Board.{Board}
 use Rattle.shortest_forest.specs.Arcs.{Arcs, IsArcWalk, both_ways}
 use Rattle.shortest_forest.proofs.SameBoard.{Links-same, IsConnectable-same}

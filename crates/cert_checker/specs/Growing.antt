@@ -1,15 +1,16 @@
 -- How FPGAs grow over what is left of the lengths of wires.
-use Rattle.std.specs.Prelude.{◌≡◌, ◌≢◌, ℕ, ◌+◌, ◌-◌, ◌*◌, ◌^◌, ◌<◌, ◌≤◌, ◌⊎◌, ◌↔◌, nat_lt, if◌then◌else◌, Bool, List, ◌∷◌, length, drop, slice_index, Option, Some, None, Contains, All}
+use Rattle.std.specs.Prelude.{◌≡◌, ◌≢◌, ℕ, ◌+◌, ◌-◌, ◌*◌, ◌^◌, ◌<◌, ◌≤◌, ◌⊎◌, ◌↔◌, nat_lt, if◌then◌else◌, Bool, min, List, ◌∷◌, length, drop, slice_index, Option, Some, None, Contains, All}
 use Rattle.tdm_problem.specs.Board.{Board}
 use Rattle.tdm_problem.specs.Walk.{Links, IsWalk, AnyWire}
+use Rattle.board_graph.specs.Graph.{Graph}
 use Rattle.shortest_forest.specs.declared.label.Label.{Label}
 use Rattle.shortest_forest.specs.Arcs.{Arcs, IsGoal}
-use Rattle.shortest_forest.specs.Labels.{Labels, label_at}
+use Rattle.shortest_forest.specs.Labels.{Labels, label_at, IsAtLabel}
 use Rattle.bound_cert.specs.Growth.{IsReach, IsHeight, worn, GrowOver}
 
--- how many FPGAs there are, and the lengths of the wires
+-- a graph and the lengths of its wires
 pub record Lengths : Type 0 where
-  pub fpgas : ℕ
+  pub graph : Graph
   pub lengths : List ℕ
 
 -- the rests of arcs: those of the wires on the way to the end of the greater number, and on the way back
@@ -33,6 +34,26 @@ AreGoals live goals = (f : ℕ) → IsGoal goals f ↔ Contains live f
 pub record HasReached (board : Board) (rests : Arcs) (x : ℕ) (s : Labels) (reach : ℕ) : Type 0 where
   pub reaches : (live : List ℕ) → AreGoals live s.goals → IsReach board rests x live reach
   pub heights : (f : ℕ) → IsHeight board rests x reach f (height_in s reach f)
+
+-- the search has a label for each FPGA that wires lead to from FPGA x, and the heights for any reach
+pub record HasDistances (board : Board) (rests : Arcs) (x : ℕ) (s : Labels) : Type 0 where
+  pub there : (f : ℕ) (es : List ℕ) → f < board.fpgas → IsWalk board (AnyWire board) x es f
+      → (d : ℕ) × IsAtLabel s f d
+  pub below : (f d : ℕ) → IsAtLabel s f d → d < 2 ^ 64 - 2 ^ 51
+  pub heights : (reach f : ℕ) → reach < 2 ^ 64 - 2 ^ 51 + 1
+      → IsHeight board rests x reach f (height_in s reach f)
+
+-- of the labels of some FPGAs this is the least distance, None where none of them has a label
+abbrev pub IsLeastOf : Labels → (among : ℕ → Type 0) → Option ℕ → Type 0
+IsLeastOf s among None = (f d : ℕ) → among f → ¬ IsAtLabel s f d
+IsLeastOf s among (Some least) = ((f : ℕ) × among f × IsAtLabel s f least)
+    × ((f d : ℕ) → among f → IsAtLabel s f d → least ≤ d)
+
+-- the lesser of two distances, where None is more than any
+abbrev pub nearer : Option ℕ → Option ℕ → Option ℕ
+nearer None b = b
+nearer (Some a) None = Some a
+nearer (Some a) (Some b) = Some (min a b)
 
 -- no wires of the board lead from FPGA x to a goal
 abbrev pub ReachesNone : Board → (x : ℕ) → Labels → Type 0

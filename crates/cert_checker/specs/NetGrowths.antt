@@ -13,7 +13,7 @@ pub record AreGrowths (board : Board) (wire_length : ℕ → ℕ) (weights growt
 
 -- the net stands in the list, with any mark
 abbrev pub HasNet : List SetMark → (n : ℕ) → Type 0
-HasNet marks n = (mark : ℕ) × Contains marks (record { mark = mark; net = n })
+HasNet marks n = (m : SetMark) × Contains marks m × (m.net ≡ n)
 
 -- the marks are of nets of the board that have a weight
 abbrev pub AreWeighed : List ℕ → List SetMark → Type 0

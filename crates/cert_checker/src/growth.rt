@@ -1,13 +1,13 @@
 //! How far FPGAs grow towards one another over wires with lengths.
-ghost use Rattle.std.specs.Prelude.{◌≡◌, ◌≢◌, ◌+◌, ◌*◌, ◌^◌, ◌<◌, ◌≤◌, ◌⊎◌, ℕ, List, [], ◌∷◌, ◌++◌, length, slice_index, nat_lt, All, AllPairs, Contains, IfOk, IfSome, IfNone, OnOk};
+ghost use Rattle.std.specs.Prelude.{◌≡◌, ◌≢◌, ◌+◌, ◌*◌, ◌^◌, ◌<◌, ◌≤◌, ◌⊎◌, ℕ, List, [], ◌∷◌, ◌++◌, length, slice_index, nat_lt, Some, All, AllPairs, Contains, IfOk, IfSome, IfNone, OnOk};
 ghost use Rattle.tdm_problem.specs.Walk.{IsConnectable};
 ghost use Rattle.board_graph.specs.Graph.{board_of, IsGraph};
 ghost use Rattle.shortest_forest.specs.Arcs.{IsGoal};
 ghost use Rattle.steiner_build.specs.Joining.{HasNoGoals};
-ghost use Rattle.bound_cert.specs.Growth.{GrowOver, IsGrowth};
+ghost use Rattle.bound_cert.specs.Growth.{GrowOver, IsGrowth, IsReach, IsHeight};
 ghost use Rattle.bound_cert.specs.Limits.{most_length};
 ghost use Rattle.cert_checker.specs.MarkedLists.{IsLonger};
-ghost use Rattle.cert_checker.specs.Growing.{arcs_of, height_in, AreGoals, HasNear, HasReached, ReachesNone, IsWornAt, IsWorn, IsTakenOff, AreListed, StaysListed};
+ghost use Rattle.cert_checker.specs.Growing.{arcs_of, height_in, nearer, AreGoals, HasDistances, HasNear, HasReached, IsLeastOf, ReachesNone, IsWornAt, IsWorn, IsTakenOff, AreListed, StaysListed};
 
 use crate::marked_list::MarkedList;
 use board_graph::BoardGraph;
@@ -17,42 +17,59 @@ use std::marker::Model;
 
 /// Grows sets of FPGAs towards one another over the same lengths of wires, one set after another. It is made
 /// once, and its memory, which grows with the FPGAs and the wires, serves every set. A call takes time for
-/// what it searches alone, and allocates only where the queue of the search is longer than ever before.
+/// what it searches alone, and allocates only where the queue of a search is longer than ever before. The
+/// first FPGA that grows does so over whole lengths: how far all others are from it is kept for the next set,
+/// so sets in which the same FPGA is the second are best grown one after another.
 #[derive(Drop)]
-pub struct Grower {
-    search: Search,
+pub struct Grower<'a> {
+    graph: &'a BoardGraph,
     lengths: Vec<u64>,
+    start: Search,
+    started: Option<u32>,
+    search: Search,
     up: Vec<u64>,
     down: Vec<u64>,
     worn: MarkedList,
     near: MarkedList,
 }
 
-impl Model for Grower {
-    ghost use Rattle.std.specs.Prelude.{◌≡◌, ◌≤◌, length, slice_index, [], ℕ};
+impl<'a> Model for Grower<'a> {
+    ghost use Rattle.std.specs.Prelude.{◌≡◌, ◌≤◌, length, slice_index, [], ℕ, IfSome};
+    ghost use Rattle.board_graph.specs.Graph.{board_of, IsGraph};
     ghost use Rattle.steiner_build.specs.Joining.{HasNoGoals};
     ghost use Rattle.bound_cert.specs.Limits.{most_length};
-    ghost use Rattle.cert_checker.specs.Growing.{Lengths};
+    ghost use Rattle.cert_checker.specs.Growing.{Lengths, arcs_of, HasDistances};
 
     ghost Value = { Lengths };
 
-    ghost view = { λ g. record { fpgas = length g.search.labels; lengths = g.lengths.items } };
+    ghost view = { λ g. record { graph = g.graph.now; lengths = g.lengths.items } };
 
-    ghost invariant = { λ g. HasNoGoals g.search.goals × (length g.search.goals ≡ length g.search.labels)
-        × (g.up.items ≡ g.lengths.items) × (g.down.items ≡ g.lengths.items) × (g.worn.listed ≡ [])
-        × (g.worn.limit ≡ length g.lengths.items)
-        × (g.near.limit ≡ length g.search.labels)
-        × ((e : ℕ) → slice_index g.lengths.items e ≤ most_length) };
+    ghost invariant = { λ g. IsGraph g.graph.now × (length g.lengths.items ≡ length g.graph.now.wires)
+        × ((e : ℕ) → slice_index g.lengths.items e ≤ most_length)
+        × HasNoGoals g.start.goals × (length g.start.goals ≡ g.graph.now.fpgas)
+        × (length g.start.labels ≡ g.graph.now.fpgas)
+        × IfSome g.started (λ x. HasDistances (board_of g.graph.now) (arcs_of g.lengths.items g.lengths.items)
+        x g.start)
+        × HasNoGoals g.search.goals × (length g.search.goals ≡ g.graph.now.fpgas)
+        × (length g.search.labels ≡ g.graph.now.fpgas)
+        × (g.up.items ≡ g.lengths.items) × (g.down.items ≡ g.lengths.items)
+        × (g.worn.listed ≡ []) × (g.worn.limit ≡ length g.graph.now.wires)
+        × (g.near.limit ≡ g.graph.now.fpgas) };
 }
 
-impl Grower {
+impl<'a> Grower<'a> {
     /// Made for a graph and the length of each of its wires, at most 2^48.
-    pub fn new(alloc: Global, graph: &BoardGraph, lengths: &[u64]) -> Result<Grower, AllocError>
+    pub fn new(
+        alloc: Global,
+        graph: &'a BoardGraph,
+        lengths: &[u64],
+    ) -> Result<Grower<'a>, AllocError>
         requires count { length lengths.now ≡ length graph.now.wires }
         requires small { All (λ l. l ≤ most_length) lengths.now }
-        ensures fpgas { IfOk result (λ grower. grower.fpgas ≡ graph.now.fpgas) }
+        ensures graph { IfOk result (λ grower. grower.graph ≡ graph.now) }
         ensures lengths { IfOk result (λ grower. grower.lengths ≡ lengths.now) }
     {
+        let start = Search::new(alloc, graph)?;
         let search = Search::new(alloc, graph)?;
         let up = lengths.to_vec(alloc)?;
         let down = lengths.to_vec(alloc)?;
@@ -62,8 +79,11 @@ impl Grower {
         let worn = MarkedList::new(alloc, wires)?;
         let near = MarkedList::new(alloc, fpgas)?;
         Ok(Grower {
-            search,
+            graph,
             lengths,
+            start,
+            started: None,
+            search,
             up,
             down,
             worn,
@@ -75,29 +95,48 @@ impl Grower {
     /// order, each until it reaches the root or one that is still to grow, over what those before it left of
     /// each wire in each direction. 0 where wires do not join them all. The only error is want of memory; the
     /// grower may be used again then too.
-    pub fn growth(&mut self, graph: &BoardGraph, fpgas: &[u32]) -> Result<u128, AllocError>
-        requires graph { self.old.fpgas ≡ graph.now.fpgas }
-        requires lengths { length self.old.lengths ≡ length graph.now.wires }
-        requires there { All (λ f. f < graph.now.fpgas) fpgas.now }
+    pub fn growth(&mut self, fpgas: &[u32]) -> Result<u128, AllocError>
+        requires there { All (λ f. f < self.old.graph.fpgas) fpgas.now }
         requires distinct { AllPairs (λ x y. x ≢ y) fpgas.now }
         ensures same { self.new ≡ self.old }
-        ensures growth { IfOk result (IsGrowth (board_of graph.now) (slice_index self.old.lengths)
+        ensures growth { IfOk result (IsGrowth (board_of self.old.graph) (slice_index self.old.lengths)
             fpgas.now) }
     {
         let Some((root, growing)) = fpgas.split_first() else {
             return Ok(0);
         };
-        let _fpgas = graph.fpgas();
+        let Some((first, later)) = growing.split_first() else {
+            return Ok(0);
+        };
+        let reached = first_reach(
+            &mut self.start,
+            &mut self.started,
+            self.graph,
+            &self.lengths,
+            *root,
+            *first,
+            later,
+        )?;
+        let Some(reach) = reached else {
+            return Ok(0);
+        };
+        if later.is_empty() {
+            return Ok(u128::from(reach));
+        }
         mark(&mut self.search, fpgas);
+        self.search.remove_goal(*first);
         let grown = grow_all(
+            &self.start,
+            reach,
             &mut self.search,
-            graph,
+            self.graph,
             &mut self.up,
             &mut self.down,
             &mut self.worn,
             &mut self.near,
             *root,
-            growing,
+            *first,
+            later,
         );
         unmark(&mut self.search, fpgas);
         restore(
@@ -107,7 +146,99 @@ impl Grower {
             self.worn.items(),
         );
         self.worn.clear();
-        grown
+        Ok(grown?.unwrap_or(0))
+    }
+}
+
+/// Finds how far all FPGAs are from FPGA `x` over whole lengths, unless that was found last.
+fn start_from(
+    start: &mut Search,
+    started: &mut Option<u32>,
+    graph: &BoardGraph,
+    lengths: &[u64],
+    x: u32,
+) -> Result<(), AllocError>
+    requires graph { IsGraph graph.now }
+    requires there { x < graph.now.fpgas }
+    requires labels { length start.old.labels ≡ graph.now.fpgas }
+    requires goals { length start.old.goals ≡ graph.now.fpgas }
+    requires none { HasNoGoals start.old.goals }
+    requires count { length lengths.now ≡ length graph.now.wires }
+    requires small { (e : ℕ) → slice_index lengths.now e ≤ 2 ^ 51 }
+    requires known { IfSome started.old (λ from. HasDistances (board_of graph.now)
+        (arcs_of lengths.now lengths.now) from start.old) }
+    ensures labels { length start.new.labels ≡ length start.old.labels }
+    ensures goals { start.new.goals ≡ start.old.goals }
+    ensures known { IfSome started.new (λ from. HasDistances (board_of graph.now)
+        (arcs_of lengths.now lengths.now) from start.new) }
+    ensures started { OnOk result (started.new ≡ Some x) }
+{
+    if *started == Some(x) {
+        return Ok(());
+    }
+    *started = None;
+    let _none = reach_from(start, graph, lengths, lengths, x)?;
+    *started = Some(x);
+    Ok(())
+}
+
+/// How far the first FPGA is over whole lengths from the nearest of the root and the later ones, None where
+/// no wires lead to any of them.
+fn first_reach(
+    start: &mut Search,
+    started: &mut Option<u32>,
+    graph: &BoardGraph,
+    lengths: &[u64],
+    root: u32,
+    first: u32,
+    later: &[u32],
+) -> Result<Option<u64>, AllocError>
+    requires graph { IsGraph graph.now }
+    requires there { All (λ f. f < graph.now.fpgas) (root ∷ first ∷ later.now) }
+    requires labels { length start.old.labels ≡ graph.now.fpgas }
+    requires goals { length start.old.goals ≡ graph.now.fpgas }
+    requires none { HasNoGoals start.old.goals }
+    requires count { length lengths.now ≡ length graph.now.wires }
+    requires small { (e : ℕ) → slice_index lengths.now e ≤ 2 ^ 51 }
+    requires known { IfSome started.old (λ from. HasDistances (board_of graph.now)
+        (arcs_of lengths.now lengths.now) from start.old) }
+    ensures labels { length start.new.labels ≡ length start.old.labels }
+    ensures goals { start.new.goals ≡ start.old.goals }
+    ensures known { IfSome started.new (λ from. HasDistances (board_of graph.now)
+        (arcs_of lengths.now lengths.now) from start.new) }
+    ensures reached { IfOk result (λ reached. IfSome reached (IsReach (board_of graph.now)
+        (arcs_of lengths.now lengths.now) first (root ∷ later.now))) }
+    ensures heights { IfOk result (λ reached. IfSome reached (λ reach. (f : ℕ)
+        → IsHeight (board_of graph.now) (arcs_of lengths.now lengths.now) first reach f
+        (height_in start.new reach f))) }
+    ensures apart { IfOk result (λ reached. IfNone reached
+        (¬ IsConnectable (board_of graph.now) (root ∷ first ∷ later.now))) }
+{
+    start_from(start, started, graph, lengths, first)?;
+    Ok(least_distance(start, root, later))
+}
+
+/// The least distance of the root and of these FPGAs, None where none of them has a label.
+fn least_distance(search: &Search, root: u32, fpgas: &[u32]) -> Option<u64>
+    requires root { root < length search.now.labels }
+    requires there { All (λ f. f < length search.now.labels) fpgas.now }
+    ensures { IsLeastOf search.now (Contains (root ∷ fpgas.now)) result }
+{
+    let mut least = search.distance(root);
+    for f in fpgas {
+        least = nearer(least, search.distance(*f));
+    }
+    least
+}
+
+/// The lesser of two distances, where None is more than any.
+fn nearer(a: Option<u64>, b: Option<u64>) -> Option<u64>
+    ensures { result ≡ nearer a b }
+{
+    match (a, b) {
+        (None, b) => b,
+        (Some(a), None) => Some(a),
+        (Some(a), Some(b)) => Some(a.min(b)),
     }
 }
 
@@ -309,8 +440,8 @@ fn wear(
     requires graph { IsGraph graph.now }
     requires there { x < graph.now.fpgas }
     requires labels { length search.now.labels ≡ graph.now.fpgas }
-    requires reached { HasReached (board_of graph.now) (arcs_of up.old.items down.old.items) x search.now
-        reach }
+    requires heights { (f : ℕ) → IsHeight (board_of graph.now) (arcs_of up.old.items down.old.items) x reach f
+        (height_in search.now reach f) }
     requires up { length up.old.items ≡ length graph.now.wires }
     requires down { length down.old.items ≡ length graph.now.wires }
     requires worn_limit { worn.old.limit ≡ length graph.now.wires }
@@ -357,6 +488,8 @@ fn reach_from(
         (HasReached (board_of graph.now) (arcs_of up.now down.now) x search.new)) }
     ensures small { IfOk result (λ found. IfSome found (λ reach. reach < 2 ^ 64)) }
     ensures none { IfOk result (λ found. IfNone found (ReachesNone (board_of graph.now) x search.new)) }
+    ensures all { IfOk result (λ found. IfNone found
+        (HasDistances (board_of graph.now) (arcs_of up.now down.now) x search.new)) }
 {
     search.begin();
     search.add_source(x)?;
@@ -368,9 +501,11 @@ fn reach_from(
 }
 
 /// Grows FPGAs in order towards the root and those that are still to grow, which are the goals, and answers
-/// how far they grow together; 0 where wires do not join them all. What is left of the wires is then less on
-/// those listed.
+/// how far they grow together; None where wires do not join them all. The first has reached the nearest of
+/// the others before. What is left of the wires is then less on those listed.
 fn grow_all(
+    start: &Search,
+    reach: u64,
     search: &mut Search,
     graph: &BoardGraph,
     up: &mut Vec<u64>,
@@ -378,9 +513,15 @@ fn grow_all(
     worn: &mut MarkedList,
     near: &mut MarkedList,
     root: u32,
-    growing: &[u32],
-) -> Result<u128, AllocError>
+    first: u32,
+    later: &[u32],
+) -> Result<Option<u128>, AllocError>
     requires graph { IsGraph graph.now }
+    requires start_labels { length start.now.labels ≡ graph.now.fpgas }
+    requires reach { IsReach (board_of graph.now) (arcs_of up.old.items down.old.items) first
+        (root ∷ later.now) reach }
+    requires heights { (f : ℕ) → IsHeight (board_of graph.now) (arcs_of up.old.items down.old.items) first
+        reach f (height_in start.now reach f) }
     requires labels { length search.old.labels ≡ graph.now.fpgas }
     requires goals { length search.old.goals ≡ graph.now.fpgas }
     requires up { length up.old.items ≡ length graph.now.wires }
@@ -389,16 +530,16 @@ fn grow_all(
     requires near_limit { near.old.limit ≡ graph.now.fpgas }
     requires listed { (lengths : List ℕ) × AreListed lengths up.old.items down.old.items worn.old.listed
         × ((e : ℕ) → slice_index lengths e ≤ 2 ^ 51) }
-    requires there { All (λ f. f < graph.now.fpgas) growing.now }
-    requires distinct { AllPairs (λ x y. x ≢ y) (root ∷ growing.now) }
-    requires marked { AreGoals (root ∷ growing.now) search.old.goals }
+    requires there { All (λ f. f < graph.now.fpgas) (first ∷ later.now) }
+    requires distinct { AllPairs (λ x y. x ≢ y) (root ∷ first ∷ later.now) }
+    requires marked { AreGoals (root ∷ later.now) search.old.goals }
     ensures labels { length search.new.labels ≡ length search.old.labels }
     ensures goals { length search.new.goals ≡ length search.old.goals }
-    ensures among { (f : ℕ) → IsGoal search.new.goals f → Contains (root ∷ growing.now) f }
-    ensures growth { IfOk result
-        (λ growth. (GrowOver (board_of graph.now) root growing.now (arcs_of up.old.items down.old.items)
-        growth)
-        ⊎ ((growth ≡ 0) × ¬ IsConnectable (board_of graph.now) (root ∷ growing.now))) }
+    ensures among { (f : ℕ) → IsGoal search.new.goals f → Contains (root ∷ first ∷ later.now) f }
+    ensures grown { IfOk result (λ grown. IfSome grown (GrowOver (board_of graph.now) root
+        (first ∷ later.now) (arcs_of up.old.items down.old.items))) }
+    ensures apart { IfOk result (λ grown. IfNone grown
+        (¬ IsConnectable (board_of graph.now) (root ∷ first ∷ later.now))) }
     ensures up { length up.new.items ≡ length up.old.items }
     ensures down { length down.new.items ≡ length down.old.items }
     ensures worn_limit { worn.new.limit ≡ worn.old.limit }
@@ -406,18 +547,19 @@ fn grow_all(
     ensures listed { StaysListed up.old.items down.old.items worn.old.listed up.new.items down.new.items
         worn.new.listed }
 {
-    let mut growth = 0;
-    for i in 0..growing.len() {
-        let x = growing[i];
+    let mut growth = u128::from(reach);
+    wear(start, graph, reach, first, up, down, worn, near)?;
+    for i in 0..later.len() {
+        let x = later[i];
         search.remove_goal(x);
         let Some(reach) = reach_from(search, graph, up, down, x)? else {
-            return Ok(0);
+            return Ok(None);
         };
         growth += u128::from(reach);
-        if i + 1 == growing.len() {
-            return Ok(growth);
+        if i + 1 == later.len() {
+            return Ok(Some(growth));
         }
         wear(search, graph, reach, x, up, down, worn, near)?;
     }
-    Ok(growth)
+    Ok(Some(growth))
 }

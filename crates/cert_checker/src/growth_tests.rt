@@ -21,8 +21,8 @@ fn growth_twice(
 {
     let graph = BoardGraph::of(alloc, problem)?;
     let mut grower = Grower::new(alloc, &graph, lengths)?;
-    let first = grower.growth(&graph, fpgas)?;
-    let second = grower.growth(&graph, fpgas)?;
+    let first = grower.growth(fpgas)?;
+    let second = grower.growth(fpgas)?;
     if first != second {
         return Err(AllocError);
     }

@@ -38,20 +38,23 @@ pub fn growths(
     let marks = marked_nets(alloc, problem, weights)?;
     for i in 0..marks.len() {
         let n = marks[i].net;
-        grow_set(&mut grower, &graph, problem.net(n), &mut rising, &mut last)?;
+        grow_set(&mut grower, problem.net(n), &mut rising, &mut last)?;
         growths[n as usize] = last.growth;
     }
     Ok(growths)
 }
 
-/// A net with a number that is the same for nets with the same FPGAs, and hardly ever for others.
+/// A net with the second of its FPGAs in rising order, and with a number that is the same for nets with the
+/// same FPGAs, and hardly ever for others.
 #[derive(Clone, Copy, Drop)]
 struct SetMark {
+    second: u32,
     mark: u64,
     net: u32,
 }
 
-/// The nets that have a weight, those with the same FPGAs one after another.
+/// The nets that have a weight, those with the same second FPGA one after another, and among them those with
+/// the same FPGAs.
 fn marked_nets(
     alloc: Global,
     problem: &Problem,
@@ -68,12 +71,24 @@ fn marked_nets(
             continue;
         }
         marks.push(SetMark {
+            second: second_of(problem.net(n)),
             mark: mark_of(problem.net(n)),
             net: n,
         })?;
     }
-    marks.sort_unstable_by_key(|m| m.mark);
+    marks.sort_unstable_by_key(|m| (m.second, m.mark));
     Ok(marks)
+}
+
+/// The second of these FPGAs in rising order, or the largest number there is where they are fewer than two.
+/// Nothing but speed rests on it.
+fn second_of(fpgas: &[u32]) -> u32 {
+    let (mut first, mut second) = (u32::MAX, u32::MAX);
+    for f in fpgas {
+        second = second.min(first.max(*f));
+        first = first.min(*f);
+    }
+    second
 }
 
 /// A number that is the same for the same FPGAs in any order: a sum of mixed numbers. Nothing but speed rests
@@ -112,20 +127,17 @@ fn put_rising(rising: &mut Vec<u32>, fpgas: &[u32]) -> Result<(), AllocError>
 
 /// Grows the FPGAs of a net in rising order, if they are not those that grew last.
 fn grow_set(
-    grower: &mut Grower,
-    graph: &BoardGraph,
+    grower: &mut Grower<'_>,
     fpgas: &[u32],
     rising: &mut Vec<u32>,
     last: &mut GrownSet,
 ) -> Result<(), AllocError>
-    requires graph { grower.old.fpgas ≡ graph.now.fpgas }
-    requires lengths { length grower.old.lengths ≡ length graph.now.wires }
-    requires there { All (λ f. f < graph.now.fpgas) fpgas.now }
+    requires there { All (λ f. f < grower.old.graph.fpgas) fpgas.now }
     requires distinct { AllPairs (λ x y. x ≢ y) fpgas.now }
-    requires last { IsGrowth (board_of graph.now) (slice_index grower.old.lengths) last.old.fpgas.items
-        last.old.growth }
+    requires last { IsGrowth (board_of grower.old.graph) (slice_index grower.old.lengths)
+        last.old.fpgas.items last.old.growth }
     ensures grower { grower.new ≡ grower.old }
-    ensures grows { OnOk result (IsGrowth (board_of graph.now) (slice_index grower.old.lengths)
+    ensures grows { OnOk result (IsGrowth (board_of grower.old.graph) (slice_index grower.old.lengths)
         last.new.fpgas.items last.new.growth) }
     ensures rising { OnOk result (AreRising fpgas.now last.new.fpgas.items) }
 {
@@ -133,7 +145,7 @@ fn grow_set(
     if rising.as_slice() == last.fpgas.as_slice() {
         return Ok(());
     }
-    last.growth = grower.growth(graph, rising.as_slice())?;
+    last.growth = grower.growth(rising.as_slice())?;
     mem::swap(rising, &mut last.fpgas);
     Ok(())
 }

@@ -4,9 +4,9 @@ use Rattle.std.proofs.lemmas.List.{length-map}
 use Rattle.tdm_problem.specs.Roots.{root_of}
 use Rattle.tdm_problem.specs.Sums.{sum_below}
 use Rattle.bound_cert.specs.declared.certificate.CertKind.{CertKind}
-use Rattle.bound_cert.specs.Bound.{root_sum, weight_sum, demand_by}
+use Rattle.bound_cert.specs.Bound.{root_sum, demand_by}
 use Rattle.cert_checker.specs.Spreads.{most_spread}
-use Rattle.cert_checker.proofs.RootSums.{sum_of_roots-le, root_sum_is, weight_sum_is, written_back}
+use Rattle.cert_checker.proofs.RootSums.{sum_of_roots-le, root_sum_is, written_back}
 use Rattle.cert_checker.proofs.bound.demand.Goals as goal
 
 pub weighted_sum-total-requires-clause-whole : goal.weighted_sum-total-requires-clause-whole

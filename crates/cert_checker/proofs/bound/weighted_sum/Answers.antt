@@ -1,4 +1,4 @@
-use Rattle.std.proofs.Common.{◌≡◌, ◌+◌, ◌*◌, ◌<◌, ◌≤◌, ◌^◌, ℕ, length, get_or, sym, ap, subst, arith}
+use Rattle.std.proofs.Common.{◌≡◌, ◌+◌, ◌*◌, ◌<◌, ℕ, length, get_or, sym, ap, subst, arith}
 use Rattle.cert_checker.proofs.WeightedSums.{IsSummed, summed-more, summed-fits}
 use Rattle.cert_checker.proofs.bound.weighted_sum.Goals as goal
 

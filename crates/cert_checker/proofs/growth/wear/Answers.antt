@@ -28,4 +28,4 @@ returns-clause-worn c = IsWorn-all (board_of c.args.graph.now) (height_in c.args
     (arcs_of c.args.up.now.items c.args.down.now.items) (arcs_of c.loop-f.up.items c.loop-f.down.items)
     c.loop-f.invariant.0
     (past-end c.loop-f.near.listed c.loop-f.i (sym c.get.ensures.value ∙ c.in_default.is))
-    c.loop-f.invariant.1 c.requires.reached.heights
+    c.loop-f.invariant.1 c.requires.heights

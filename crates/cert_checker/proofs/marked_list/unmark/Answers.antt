@@ -1,4 +1,4 @@
-use Rattle.std.proofs.Common.{List, Bool, [], false, set, get_or, refl, arith}
+use Rattle.std.proofs.Common.{List, Bool, [], false, set, get_or, refl}
 use Rattle.shortest_forest.specs.Labels.{Labels}
 use Rattle.steiner_build.proofs.MarkLaws.{IsUnmarking-start, IsUnmarking-more, none-unmarked}
 use Rattle.cert_checker.proofs.marked_list.unmark.Goals as goal

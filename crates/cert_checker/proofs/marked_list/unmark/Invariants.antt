@@ -1,4 +1,4 @@
-use Rattle.std.proofs.Common.{◌≡◌, [], length}
+use Rattle.std.proofs.Common.{[]}
 use Rattle.steiner_build.proofs.MarkLaws.{IsUnmarking}
 use Rattle.cert_checker.proofs.marked_list.unmark.Given as goal
 

@@ -1,7 +1,6 @@
-use Rattle.std.proofs.Common.{rules, ◌≡◌, ◌<◌, ℕ, List, [], Some, length, get_or, sym, ap, ◌∙◌, refl, subst, arith}
-use Rattle.std.specs.Prelude.{slice_get, slice_index}
+use Rattle.std.proofs.Common.{rules, ◌<◌, ℕ, List, length, sym, ap, ◌∙◌, refl, subst, arith}
+use Rattle.std.specs.Prelude.{All, slice_index}
 use Rattle.std.proofs.lemmas.Option.{slice_get_read}
-use Rattle.tdm_problem.specs.declared.wire.Wire.{Wire}
 use Rattle.board_graph.specs.Graph.{Graph, board_of, graph_of}
 use Rattle.bound_cert.specs.Growth.{IsGrowth}
 use Rattle.cert_checker.specs.Growing.{Lengths}
@@ -12,7 +11,6 @@ use Rattle.cert_checker.proofs.net_growths.growths.Goals as goal
 pub loop-i-preserved : goal.loop-i-preserved
 loop-i-preserved c =
     let board = c.args.problem.now in
-    let graph = c.in_ok-graph.graph in
     let wire_length = slice_index c.args.lengths.now in
     let weights = c.args.weights.now in
     let marks = c.in_ok-marks.marks.items in
@@ -21,22 +19,20 @@ loop-i-preserved c =
     let mark = c.index.result.now in
     let fpgas = c.net.result.now in
     let last = c.grow_set.new.last in
-    let grows : IsGrowth (board_of graph) wire_length last.fpgas.items last.growth =
-    subst (λ (ls : List ℕ). IsGrowth (board_of graph) (slice_index ls) last.fpgas.items last.growth)
-    c.loop-i.invariant.3 c.in_ok-grow_set.ensures.grows in
-    let here_too : IsGrowth (board_of (graph_of board)) wire_length last.fpgas.items last.growth =
+    let grows : IsGrowth (board_of (graph_of board)) wire_length last.fpgas.items last.growth =
     subst (λ (g : Graph). IsGrowth (board_of g) wire_length last.fpgas.items last.growth)
-    c.in_ok-graph.ensures.same grows in
-    let wires : graph.wires ≡ board.wires = ap (λ (g : Graph). g.wires) c.in_ok-graph.ensures.same in
-    let here = net_growth-on_graph board (board_of graph) wire_length mark.net fpgas last.fpgas.items
-    last.growth wires (sym c.net.ensures.value) c.in_ok-grow_set.ensures.rising grows in
+    c.loop-i.invariant.2
+    (subst (λ (ls : List ℕ). IsGrowth (board_of c.loop-i.grower.graph) (slice_index ls) last.fpgas.items
+    last.growth) c.loop-i.invariant.3 c.in_ok-grow_set.ensures.grows) in
+    let here = net_growth-on_graph board (board_of (graph_of board)) wire_length mark.net fpgas
+    last.fpgas.items last.growth refl (sym c.net.ensures.value) c.in_ok-grow_set.ensures.rising grows in
     let weighed = subst (λ (m : SetMark). (m.net < length weights) × (0 < slice_index weights m.net))
     (sym c.index.ensures) (c.in_ok-marks.ensures.weighed i mark inside) in (
       AreGrown-more board wire_length weights marks i c.loop-i.growths.items mark last.growth
           (omega (arith, weighed.0, c.requires.weights)) weighed.1
           (slice_get_read marks (length marks) i mark refl inside c.index.ensures) here c.loop-i.invariant.0,
-      here_too,
-      ap (λ (l : Lengths). l.fpgas) c.grow_set.ensures.grower ∙ c.loop-i.invariant.2,
+      grows,
+      ap (λ (l : Lengths). l.graph) c.grow_set.ensures.grower ∙ c.loop-i.invariant.2,
       ap (λ (l : Lengths). l.lengths) c.grow_set.ensures.grower ∙ c.loop-i.invariant.3,
     )
 
@@ -58,25 +54,22 @@ loop-i-init c =
     (AreGrown-none board wire_length weights marks c.nets.result c.nets.ensures.value) in (
       none,
       search rules,
-      c.in_ok-grower.ensures.fpgas ∙ ap (λ (g : Graph). g.fpgas) c.in_ok-graph.ensures.same,
+      c.in_ok-grower.ensures.graph ∙ c.in_ok-graph.ensures.same,
       c.in_ok-grower.ensures.lengths,
     )
 
-pub grow_set-requires-clause-graph : goal.grow_set-requires-clause-graph
-grow_set-requires-clause-graph c = c.loop-i.invariant.2
-    ∙ sym (ap (λ (g : Graph). g.fpgas) c.in_ok-graph.ensures.same)
-
-pub grow_set-requires-clause-lengths : goal.grow_set-requires-clause-lengths
-grow_set-requires-clause-lengths c = ap length c.loop-i.invariant.3 ∙ c.requires.lengths
-    ∙ sym (ap (λ (g : Graph). length g.wires) c.in_ok-graph.ensures.same)
+pub grow_set-requires-clause-there : goal.grow_set-requires-clause-there
+grow_set-requires-clause-there c =
+    subst (λ (g : Graph). All (λ f. f < g.fpgas) c.net.result.now) (sym c.loop-i.invariant.2)
+    c.net.ensures.row.below
 
 pub grow_set-requires-clause-last : goal.grow_set-requires-clause-last
 grow_set-requires-clause-last c =
     let last = c.loop-i.last in
-    subst (λ (ls : List ℕ). IsGrowth (board_of c.in_ok-graph.graph) (slice_index ls) last.fpgas.items
+    subst (λ (ls : List ℕ). IsGrowth (board_of c.loop-i.grower.graph) (slice_index ls) last.fpgas.items
     last.growth) (sym c.loop-i.invariant.3)
     (subst (λ (g : Graph). IsGrowth (board_of g) (slice_index c.args.lengths.now) last.fpgas.items
-    last.growth) (sym c.in_ok-graph.ensures.same) c.loop-i.invariant.1)
+    last.growth) (sym c.loop-i.invariant.2) c.loop-i.invariant.1)
 
 pub index_mut-requires : goal.index_mut-requires
 index_mut-requires c =

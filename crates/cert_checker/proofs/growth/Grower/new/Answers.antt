@@ -13,22 +13,21 @@ invariant_of-result c =
     let fpgas = c.args.graph.now.fpgas in
     let none : Option Label = None in
     let whole : c.in_ok-lengths.lengths.items ≡ c.args.lengths.now =
-    c.in_ok-lengths.ensures.items_if_clones_equal (search rules) in
-    let wires : c.in_ok-worn.worn.limit ≡ length c.in_ok-lengths.lengths.items = c.in_ok-worn.ensures.limit
-    ∙ c.wires-wires.ensures.value ∙ sym c.requires.count ∙ sym (ap length whole) in
-    let labels : length c.in_ok-search.search.labels ≡ fpgas = ap length c.in_ok-search.ensures.labels
-    ∙ length-replicate fpgas none in
-    let goals : length c.in_ok-search.search.goals ≡ fpgas = ap length c.in_ok-search.ensures.goals
-    ∙ length-replicate fpgas false in
-    let near : c.in_ok-near.near.limit ≡ length c.in_ok-search.search.labels = c.in_ok-near.ensures.limit
-    ∙ c.fpgas-fpgas.ensures.value ∙ sym labels in (
+    c.in_ok-lengths.ensures.items_if_clones_equal (search rules) in (
+      c.wires-wires.ensures.graph,
+      ap length whole ∙ c.requires.count,
+      λ e. subst (λ (xs : List ℕ). slice_index xs e ≤ most_length) (sym whole)
+          (all-small c.args.lengths.now most_length c.requires.small e),
+      subst (λ (gs : List Bool). HasNoGoals gs) (sym c.in_ok-start.ensures.goals) (none-replicate fpgas),
+      ap length c.in_ok-start.ensures.goals ∙ length-replicate fpgas false,
+      ap length c.in_ok-start.ensures.labels ∙ length-replicate fpgas none,
+      search rules,
       subst (λ (gs : List Bool). HasNoGoals gs) (sym c.in_ok-search.ensures.goals) (none-replicate fpgas),
-      goals ∙ sym labels,
+      ap length c.in_ok-search.ensures.goals ∙ length-replicate fpgas false,
+      ap length c.in_ok-search.ensures.labels ∙ length-replicate fpgas none,
       search rules,
       search rules,
       c.in_ok-worn.ensures.listed,
-      wires,
-      near,
-      λ e. subst (λ (xs : List ℕ). slice_index xs e ≤ most_length) (sym whole)
-          (all-small c.args.lengths.now most_length c.requires.small e),
+      c.in_ok-worn.ensures.limit ∙ c.wires-wires.ensures.value,
+      c.in_ok-near.ensures.limit ∙ c.fpgas-fpgas.ensures.value,
     )
