@@ -17,6 +17,7 @@ mod trading;
 mod wire_rounding;
 mod worst_groups;
 
+pub use proposed::TradedSolution;
 pub use tight::tighten;
 pub use trading::{trade, trade_from};
 
