@@ -4,3 +4,4 @@ pub mod Steps
 pub mod TraderRoom
 pub mod Traded
 pub mod Spent
+pub mod Members

@@ -4,6 +4,7 @@
 #[cfg(test)]
 mod definitions;
 mod doubt;
+mod members;
 mod numbers;
 mod prices;
 mod proposed;

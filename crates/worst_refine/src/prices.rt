@@ -1,11 +1,9 @@
 //! Prices of nets. On a wire whose nets' prices sum to a load, the ratio of a net is about the load over its
 //! price.
 ghost use Rattle.std.specs.Prelude.{◌≡◌, ◌<◌, length, All};
-ghost use Rattle.net_groups.specs.Incidence.{IsNetGroups};
 
 use crate::numbers::{larger, within_32_bits};
 use flat_rows::FlatRows;
-use net_groups::Incidence;
 
 /// About the largest price there is.
 const TOP_PRICE: u64 = 1 << 30;
@@ -72,31 +70,19 @@ fn add_to_each(loads: &mut [u64], wires: &[u32], price: u64)
 
 /// Makes each net dearer or cheaper: its price is multiplied by its largest group sum over the worst one, and
 /// by a 64th at least. Then all prices are scaled, so that the largest is about 2^30 again.
-pub(crate) fn reprice(prices: &mut [u32], incidence: &Incidence, sums: &[u32], worst: u64)
-    requires paired { length prices.old ≡ length incidence.now.of_nets }
-    requires groups { length sums.now ≡ incidence.now.groups }
+pub(crate) fn reprice(prices: &mut [u32], largest_sums: &[u32], worst: u64)
+    requires { length largest_sums.now ≡ length prices.old }
 {
     let inverse = (1 << 48) / worst.max(1);
     let mut most = 0;
-    for n in 0..incidence.nets() {
-        let own = u64::from(largest_of(sums, incidence.groups_of(n)));
+    for n in 0..prices.len() {
+        let own = u64::from(largest_sums[n]);
         let factor = (own.wrapping_mul(inverse) >> 32).clamp(1024, 65_536);
-        let price = u64::from(prices[n as usize]).wrapping_mul(factor) >> 16;
-        prices[n as usize] = within_32_bits(price);
-        most = larger(most, prices[n as usize]);
+        let price = within_32_bits(u64::from(prices[n]).wrapping_mul(factor) >> 16);
+        prices[n] = price;
+        most = larger(most, price);
     }
     scale(prices, (TOP_PRICE << 20) / u64::from(most).max(1));
-}
-
-/// The largest sum of these groups, 0 where there are none.
-fn largest_of(sums: &[u32], groups: &[u32]) -> u32
-    requires { All (λ g. g < length sums.now) groups.now }
-{
-    let mut most = 0;
-    for g in groups {
-        most = larger(most, sums[*g as usize]);
-    }
-    most
 }
 
 /// Multiplies all prices by a factor of 2^20ths.

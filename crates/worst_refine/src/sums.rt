@@ -1,9 +1,8 @@
-//! Values of nets and sums of groups, which stop at 2^32 - 1.
+//! Values of nets, which stop at 2^32 - 1.
 ghost use Rattle.std.specs.Prelude.{◌≡◌, ◌<◌, length, All};
 
-use crate::numbers::{larger, within_32_bits};
+use crate::numbers::within_32_bits;
 use flat_rows::FlatRows;
-use tdm_problem::Problem;
 
 /// While ratios are not yet whole numbers they count in so many parts.
 pub(crate) const PARTS: u64 = 16;
@@ -30,31 +29,6 @@ fn sum_of_loads(loads: &[u64], wires: &[u32], least: u64) -> u64
     let mut sum = 0u64;
     for e in wires {
         sum = sum.wrapping_add(loads[*e as usize].max(least));
-    }
-    sum
-}
-
-/// The sum of each group from the values of the nets, and the largest of them.
-pub(crate) fn sum_groups(sums: &mut [u32], problem: &Problem, values: &[u32]) -> u64
-    requires groups { length sums.old ≡ length problem.now.groups }
-    requires nets { length values.now ≡ length problem.now.nets }
-{
-    let mut worst = 0;
-    for g in 0..problem.groups() {
-        let sum = within_32_bits(sum_of(values, problem.group(g)));
-        sums[g as usize] = sum;
-        worst = larger(worst, sum);
-    }
-    u64::from(worst)
-}
-
-/// The sum of the values of these nets.
-fn sum_of(values: &[u32], nets: &[u32]) -> u64
-    requires { All (λ n. n < length values.now) nets.now }
-{
-    let mut sum = 0u64;
-    for n in nets {
-        sum = sum.wrapping_add(u64::from(values[*n as usize]));
     }
     sum
 }

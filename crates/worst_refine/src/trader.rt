@@ -7,15 +7,15 @@
 //! sums that these gave.
 ghost use Rattle.std.specs.Prelude.{◌≡◌, ◌<◌, length, All, IfOk};
 ghost use Rattle.tdm_problem.specs.Trees.{AreTreesFor};
-ghost use Rattle.net_groups.specs.Incidence.{IsIncidenceOf};
+ghost use Rattle.worst_refine.specs.Members.{AreMembersOf};
 ghost use Rattle.worst_refine.specs.TraderRoom.{IsTraderFor};
 
+use crate::members::{Member, sum_groups, take_largest_sums};
 use crate::prices::{reprice, start_prices, take_loads};
 use crate::rounding::{lower_all_classes, round_down_some, round_up};
-use crate::sums::{PARTS, sum_groups, value_nets};
+use crate::sums::{PARTS, value_nets};
 use crate::wire_rounding::{ClassCosts, Costs, WireRounding};
 use flat_rows::FlatRows;
-use net_groups::Incidence;
 use std::alloc::{AllocError, Global};
 use tdm_problem::Problem;
 
@@ -69,25 +69,25 @@ impl Trader {
         mut self,
         alloc: Global,
         problem: &Problem,
-        incidence: &Incidence,
+        members: &[Member],
         rows: &FlatRows<u32>,
         best: u64,
         turns: u32,
     ) -> Result<Option<Vec<u32>>, AllocError>
         requires room { IsTraderFor problem.now self }
-        requires incidence { IsIncidenceOf problem.now incidence.now }
+        requires members { AreMembersOf problem.now members.now }
         requires trees_for { AreTreesFor problem.now rows.now }
     {
         let best = best.min(u64::MAX / PARTS);
         let goal = (best - best / 4096) * PARTS;
         let roundings = turns.min(ROUNDINGS);
-        if self.take_turns(problem, incidence, rows, goal, turns - roundings + 1) > goal {
+        if self.take_turns(problem, members, rows, goal, turns - roundings + 1) > goal {
             return Ok(None);
         }
         let uses = items_of(rows);
         self.halves = vec![in alloc; 0u32; uses]?;
         self.best_halves = vec![in alloc; 0u32; uses]?;
-        if self.round_repeatedly(problem, incidence, rows, best, roundings) >= best {
+        if self.round_repeatedly(problem, members, rows, best, roundings) >= best {
             return Ok(None);
         }
         Ok(Some(self.best_halves))
@@ -98,37 +98,49 @@ impl Trader {
     fn take_turns(
         &mut self,
         problem: &Problem,
-        incidence: &Incidence,
+        members: &[Member],
         rows: &FlatRows<u32>,
         goal: u64,
         turns: u32,
     ) -> u64
         requires room { IsTraderFor problem.now self.old }
-        requires incidence { IsIncidenceOf problem.now incidence.now }
+        requires members { AreMembersOf problem.now members.now }
         requires trees_for { AreTreesFor problem.now rows.now }
         ensures { IsTraderFor problem.now self.new }
     {
         let mut last = u64::MAX;
         for turn in 0..turns {
-            let worst = self.sum_at_prices(problem, rows);
+            let worst = self.sum_at_prices(problem, members, rows);
             if worst > last - (last >> 13) || (turn >= 2 && is_out_of_reach(worst, last, goal)) {
                 return worst;
             }
             last = worst;
-            reprice(&mut self.prices, incidence, &self.group_sums, worst);
+            self.reprice_nets(problem, members, worst);
         }
-        self.sum_at_prices(problem, rows)
+        self.sum_at_prices(problem, members, rows)
+    }
+
+    /// Makes nets dearer or cheaper by their largest group sums, of which this is the worst. The values of the
+    /// nets are lost.
+    fn reprice_nets(&mut self, problem: &Problem, members: &[Member], worst: u64)
+        requires room { IsTraderFor problem.now self.old }
+        requires members { AreMembersOf problem.now members.now }
+        ensures { IsTraderFor problem.now self.new }
+    {
+        take_largest_sums(&mut self.net_values, members, &self.group_sums);
+        reprice(&mut self.prices, &self.net_values, worst);
     }
 
     /// The largest group sum at the prices, in parts.
-    fn sum_at_prices(&mut self, problem: &Problem, rows: &FlatRows<u32>) -> u64
+    fn sum_at_prices(&mut self, problem: &Problem, members: &[Member], rows: &FlatRows<u32>) -> u64
         requires room { IsTraderFor problem.now self.old }
+        requires members { AreMembersOf problem.now members.now }
         requires trees_for { AreTreesFor problem.now rows.now }
         ensures { IsTraderFor problem.now self.new }
     {
         take_loads(&mut self.loads, rows, &self.prices);
         value_nets(&mut self.net_values, rows, &self.prices, &self.loads);
-        sum_groups(&mut self.group_sums, problem, &self.net_values)
+        sum_groups(&mut self.group_sums, members, &self.net_values)
     }
 
     /// Rounds, and reprices and rounds again, and keeps the best halves. It gives up where the gains cannot
@@ -136,25 +148,25 @@ impl Trader {
     fn round_repeatedly(
         &mut self,
         problem: &Problem,
-        incidence: &Incidence,
+        members: &[Member],
         rows: &FlatRows<u32>,
         best: u64,
         roundings: u32,
     ) -> u64
         requires room { IsTraderFor problem.now self.old }
-        requires incidence { IsIncidenceOf problem.now incidence.now }
+        requires members { AreMembersOf problem.now members.now }
         requires trees_for { AreTreesFor problem.now rows.now }
     {
         let (mut found, mut last) = (u64::MAX, u64::MAX);
         for k in 0..roundings {
             if k > 0 {
-                reprice(&mut self.prices, incidence, &self.group_sums, last);
+                self.reprice_nets(problem, members, last);
                 take_loads(&mut self.loads, rows, &self.prices);
             }
             if !self.round(problem, rows) {
                 return found;
             }
-            let sum = sum_groups(&mut self.group_sums, problem, &self.net_values);
+            let sum = sum_groups(&mut self.group_sums, members, &self.net_values);
             if sum < found {
                 found = sum;
                 std::mem::swap(&mut self.best_halves, &mut self.halves);

@@ -8,6 +8,7 @@ ghost use Rattle.net_groups.specs.Incidence.{IsIncidenceOf};
 ghost use Rattle.even_legalise.specs.Uniform.{JoinsEachNet};
 ghost use Rattle.worst_refine.specs.Traded.{HasSmallRatios, IsBetter, IsTraded};
 
+use crate::members::members_of;
 use crate::proposed::{TradedSolution, checked};
 use crate::trader::Trader;
 use flat_rows::FlatRows;
@@ -117,9 +118,10 @@ fn proposed_halves(
     requires paired { length s.now ≡ length problem.now.nets }
 {
     let trader = Trader::new(alloc, problem, s)?;
+    let members = members_of(alloc, problem, incidence)?;
     let rows = rows_of(alloc, trees)?;
     let goal = best.min(u128::from(u64::MAX)) as u64;
-    trader.propose(alloc, problem, incidence, &rows, goal, turns)
+    trader.propose(alloc, problem, &members, &rows, goal, turns)
 }
 
 /// The wires of each net, one net after another without gaps, since a trade goes over them many times.
