@@ -5,3 +5,4 @@ pub mod TraderRoom
 pub mod Traded
 pub mod Spent
 pub mod Members
+pub mod NetUses

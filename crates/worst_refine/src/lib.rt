@@ -5,6 +5,7 @@
 mod definitions;
 mod doubt;
 mod members;
+mod net_uses;
 mod numbers;
 mod prices;
 mod proposed;

@@ -1,9 +1,10 @@
 //! Prices of nets. On a wire whose nets' prices sum to a load, the ratio of a net is about the load over its
 //! price.
 ghost use Rattle.std.specs.Prelude.{◌≡◌, ◌<◌, length, All};
+ghost use Rattle.worst_refine.specs.declared.net_uses.NetUse.{NetUse};
 
+use crate::net_uses::NetUse;
 use crate::numbers::{larger, within_32_bits};
-use flat_rows::FlatRows;
 
 /// About the largest price there is.
 const TOP_PRICE: u64 = 1 << 30;
@@ -46,25 +47,26 @@ fn start_price(number: u64, factor: u64) -> u32 {
     within_32_bits((number.wrapping_mul(factor) >> 20).max(least))
 }
 
-/// The load of each wire: the sum of the prices of the nets whose row has it.
-pub(crate) fn take_loads(loads: &mut [u64], rows: &FlatRows<u32>, prices: &[u32])
-    requires there { All (λ row. All (λ e. e < length loads.old) row) rows.now }
-    requires paired { length prices.now ≡ length rows.now }
+/// The load of each wire: the sum of the prices of the nets that use it.
+pub(crate) fn take_loads(loads: &mut [u64], uses: &[NetUse], prices: &[u32])
+    requires nets { All (λ (u : NetUse). u.net < length prices.now) uses.now }
+    requires wires { All (λ (u : NetUse). u.wire < length loads.old) uses.now }
 {
     for load in loads.iter_mut() {
         *load = 0;
     }
-    for n in 0..rows.rows() {
-        add_to_each(loads, rows.row(n), u64::from(prices[n]));
+    for net_use in uses {
+        let wire = net_use.wire as usize;
+        loads[wire] = loads[wire].wrapping_add(u64::from(prices[net_use.net as usize]));
     }
 }
 
-/// Adds a price to the load of each of these wires.
-fn add_to_each(loads: &mut [u64], wires: &[u32], price: u64)
-    requires { All (λ e. e < length loads.old) wires.now }
+/// The inverse of each price in 2^-62ths.
+pub(crate) fn take_inverses(inverses: &mut [u64], prices: &[u32])
+    requires { length prices.now ≡ length inverses.old }
 {
-    for e in wires {
-        loads[*e as usize] = loads[*e as usize].wrapping_add(price);
+    for n in 0..inverses.len() {
+        inverses[n] = (1 << 62) / u64::from(prices[n]).max(1);
     }
 }
 

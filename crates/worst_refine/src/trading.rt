@@ -9,9 +9,9 @@ ghost use Rattle.even_legalise.specs.Uniform.{JoinsEachNet};
 ghost use Rattle.worst_refine.specs.Traded.{HasSmallRatios, IsBetter, IsTraded};
 
 use crate::members::members_of;
+use crate::net_uses::uses_of_trees;
 use crate::proposed::{TradedSolution, checked};
 use crate::trader::Trader;
-use flat_rows::FlatRows;
 use net_groups::Incidence;
 use solution_eval::value;
 use std::alloc::{AllocError, Global};
@@ -119,20 +119,9 @@ fn proposed_halves(
 {
     let trader = Trader::new(alloc, problem, s)?;
     let members = members_of(alloc, problem, incidence)?;
-    let rows = rows_of(alloc, trees)?;
+    let uses = uses_of_trees(alloc, problem, trees)?;
     let goal = best.min(u128::from(u64::MAX)) as u64;
-    trader.propose(alloc, problem, &members, &rows, goal, turns)
-}
-
-/// The wires of each net, one net after another without gaps, since a trade goes over them many times.
-fn rows_of(alloc: Global, trees: &Trees) -> Result<FlatRows<u32>, AllocError>
-    ensures { IfOk result (λ rows. rows ≡ trees.now) }
-{
-    let mut rows = FlatRows::new(alloc);
-    for n in 0..trees.nets() {
-        rows.push_row(trees.wires_of(n))?;
-    }
-    Ok(rows)
+    trader.propose(alloc, problem, &members, &uses, goal, turns)
 }
 
 /// The wires of each net's uses.
