@@ -108,9 +108,9 @@ pub(crate) fn keep_traded(
         best.value,
         done == 0,
     )?;
-    if let Some(solution) = found {
-        best.solution = solution;
-        best.value = value(alloc, problem, &best.solution)?;
+    if let Some(traded) = found {
+        best.solution = traded.solution;
+        best.value = traded.value;
     }
     Ok(())
 }

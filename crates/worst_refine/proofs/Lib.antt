@@ -7,3 +7,4 @@ pub mod Proposals
 pub mod SureSteps
 pub mod Worth
 pub mod Doubts
+pub mod MemberLists

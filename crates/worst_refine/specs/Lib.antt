@@ -4,3 +4,5 @@ pub mod Steps
 pub mod TraderRoom
 pub mod Traded
 pub mod Spent
+pub mod Members
+pub mod NetUses

@@ -7,6 +7,7 @@ pub record IsTraderFor (board : Board) (t : Trader) : Type 0 where
   pub prices : vec_len t.prices ≡ length board.nets
   pub loads : vec_len t.loads ≡ length board.wires
   pub net_values : vec_len t.net_values ≡ length board.nets
+  pub net_numbers : vec_len t.net_numbers ≡ length board.nets
   pub group_sums : vec_len t.group_sums ≡ length board.groups
   pub wires : vec_len t.wires ≡ length board.wires
   pub classes : vec_len t.classes ≡ length board.wires

@@ -4,6 +4,8 @@
 #[cfg(test)]
 mod definitions;
 mod doubt;
+mod members;
+mod net_uses;
 mod numbers;
 mod prices;
 mod proposed;
@@ -17,6 +19,7 @@ mod trading;
 mod wire_rounding;
 mod worst_groups;
 
+pub use proposed::TradedSolution;
 pub use tight::tighten;
 pub use trading::{trade, trade_from};
 

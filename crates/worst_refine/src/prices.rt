@@ -1,11 +1,10 @@
 //! Prices of nets. On a wire whose nets' prices sum to a load, the ratio of a net is about the load over its
 //! price.
 ghost use Rattle.std.specs.Prelude.{◌≡◌, ◌<◌, length, All};
-ghost use Rattle.net_groups.specs.Incidence.{IsNetGroups};
+ghost use Rattle.worst_refine.specs.declared.net_uses.NetUse.{NetUse};
 
+use crate::net_uses::NetUse;
 use crate::numbers::{larger, within_32_bits};
-use flat_rows::FlatRows;
-use net_groups::Incidence;
 
 /// About the largest price there is.
 const TOP_PRICE: u64 = 1 << 30;
@@ -48,55 +47,44 @@ fn start_price(number: u64, factor: u64) -> u32 {
     within_32_bits((number.wrapping_mul(factor) >> 20).max(least))
 }
 
-/// The load of each wire: the sum of the prices of the nets whose row has it.
-pub(crate) fn take_loads(loads: &mut [u64], rows: &FlatRows<u32>, prices: &[u32])
-    requires there { All (λ row. All (λ e. e < length loads.old) row) rows.now }
-    requires paired { length prices.now ≡ length rows.now }
+/// The load of each wire: the sum of the prices of the nets that use it.
+pub(crate) fn take_loads(loads: &mut [u64], uses: &[NetUse], prices: &[u32])
+    requires nets { All (λ (u : NetUse). u.net < length prices.now) uses.now }
+    requires wires { All (λ (u : NetUse). u.wire < length loads.old) uses.now }
 {
     for load in loads.iter_mut() {
         *load = 0;
     }
-    for n in 0..rows.rows() {
-        add_to_each(loads, rows.row(n), u64::from(prices[n]));
+    for net_use in uses {
+        let wire = net_use.wire as usize;
+        loads[wire] = loads[wire].wrapping_add(u64::from(prices[net_use.net as usize]));
     }
 }
 
-/// Adds a price to the load of each of these wires.
-fn add_to_each(loads: &mut [u64], wires: &[u32], price: u64)
-    requires { All (λ e. e < length loads.old) wires.now }
+/// The inverse of each price in 2^-62ths.
+pub(crate) fn take_inverses(inverses: &mut [u64], prices: &[u32])
+    requires { length prices.now ≡ length inverses.old }
 {
-    for e in wires {
-        loads[*e as usize] = loads[*e as usize].wrapping_add(price);
+    for n in 0..inverses.len() {
+        inverses[n] = (1 << 62) / u64::from(prices[n]).max(1);
     }
 }
 
 /// Makes each net dearer or cheaper: its price is multiplied by its largest group sum over the worst one, and
 /// by a 64th at least. Then all prices are scaled, so that the largest is about 2^30 again.
-pub(crate) fn reprice(prices: &mut [u32], incidence: &Incidence, sums: &[u32], worst: u64)
-    requires paired { length prices.old ≡ length incidence.now.of_nets }
-    requires groups { length sums.now ≡ incidence.now.groups }
+pub(crate) fn reprice(prices: &mut [u32], largest_sums: &[u32], worst: u64)
+    requires { length largest_sums.now ≡ length prices.old }
 {
     let inverse = (1 << 48) / worst.max(1);
     let mut most = 0;
-    for n in 0..incidence.nets() {
-        let own = u64::from(largest_of(sums, incidence.groups_of(n)));
+    for n in 0..prices.len() {
+        let own = u64::from(largest_sums[n]);
         let factor = (own.wrapping_mul(inverse) >> 32).clamp(1024, 65_536);
-        let price = u64::from(prices[n as usize]).wrapping_mul(factor) >> 16;
-        prices[n as usize] = within_32_bits(price);
-        most = larger(most, prices[n as usize]);
+        let price = within_32_bits(u64::from(prices[n]).wrapping_mul(factor) >> 16);
+        prices[n] = price;
+        most = larger(most, price);
     }
     scale(prices, (TOP_PRICE << 20) / u64::from(most).max(1));
-}
-
-/// The largest sum of these groups, 0 where there are none.
-fn largest_of(sums: &[u32], groups: &[u32]) -> u32
-    requires { All (λ g. g < length sums.now) groups.now }
-{
-    let mut most = 0;
-    for g in groups {
-        most = larger(most, sums[*g as usize]);
-    }
-    most
 }
 
 /// Multiplies all prices by a factor of 2^20ths.

@@ -2,6 +2,7 @@
 ghost use Rattle.std.specs.Prelude.{◌≡◌, All, IfOk, OnOk, IfSome};
 ghost use Rattle.tdm_problem.specs.Routing.{wires_of, ratios_of};
 ghost use Rattle.tdm_problem.specs.Trees.{AreTreesFor, HasRisingRows, trees_of};
+ghost use Rattle.tdm_problem.specs.Value.{value_of};
 ghost use Rattle.even_legalise.specs.Uniform.{JoinsEachNet};
 ghost use Rattle.worst_refine.specs.Traded.{IsBetter, IsSmallRatio};
 
@@ -13,6 +14,13 @@ use tdm_problem::{Problem, Solution, Trees, WireUse};
 /// The half of the greatest even ratio.
 const MOST_HALF: u32 = (1 << 31) - 1;
 
+/// A solution that a trade found, and what it is worth.
+#[derive(Drop)]
+pub struct TradedSolution {
+    pub solution: Solution,
+    pub value: u128,
+}
+
 /// The solution with the trees and the proposed halves of ratios, use by use, if it is legal and its value is
 /// below `best`. The halves are let go before it is judged.
 pub(crate) fn checked(
@@ -21,20 +29,24 @@ pub(crate) fn checked(
     trees: &Trees,
     halves: Vec<u32>,
     best: u128,
-) -> Result<Option<Solution>, AllocError>
+) -> Result<Option<TradedSolution>, AllocError>
     requires trees_for { AreTreesFor problem.now trees.now }
     requires joined { JoinsEachNet problem.now trees.now }
-    ensures { IfOk result (λ found. IfSome found (IsBetter problem.now trees.now best)) }
+    ensures better { IfOk result (λ found. IfSome found
+        (λ traded. IsBetter problem.now trees.now best traded.solution)) }
+    ensures value { IfOk result (λ found. IfSome found
+        (λ traded. traded.value ≡ value_of problem.now traded.solution)) }
 {
     let solution = with_halves(alloc, trees, &halves)?;
     drop(halves);
     if !fits_by_ceilings(alloc, problem.wires(), &solution)? {
         return Ok(None);
     }
-    if value(alloc, problem, &solution)? >= best {
+    let value = value(alloc, problem, &solution)?;
+    if value >= best {
         return Ok(None);
     }
-    Ok(Some(solution))
+    Ok(Some(TradedSolution { solution, value }))
 }
 
 /// The solution with these trees, whose uses have the even ratios with these halves, one after another.

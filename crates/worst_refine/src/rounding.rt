@@ -1,28 +1,28 @@
 //! Even ratios from prices, in two sweeps over the nets.
 ghost use Rattle.std.specs.Prelude.{◌≡◌, ◌<◌, length, All};
+ghost use Rattle.worst_refine.specs.declared.net_uses.NetUse.{NetUse};
 
-use crate::numbers::within_32_bits;
+use crate::net_uses::NetUse;
 use crate::wire_rounding::{CLASSES, ClassCosts, Costs, WireRounding};
-use flat_rows::FlatRows;
 
 /// The most 64ths of the half of a ratio.
 const MOST_PARTS: u128 = (1 << 27) - 1;
 
-/// Reckons each use at the even ratio above the load over the price. Its part, one after another in the order
-/// of the rows, becomes the half of that quotient in 64ths.
+/// Reckons each use at the even ratio above the load over the price, of whose inverses in 2^-62ths there is one
+/// for each net. Its part becomes the half of that quotient in 64ths.
 pub(crate) fn round_up(
     parts: &mut [u32],
     wires: &mut [WireRounding],
     classes: &mut [ClassCosts],
     costs: &Costs,
-    rows: &FlatRows<u32>,
-    prices: &[u32],
+    uses: &[NetUse],
+    inverses: &[u64],
     loads: &[u64],
 )
-    requires there { All (λ row. All (λ e. e < length loads.now) row) rows.now }
+    requires nets { All (λ (u : NetUse). u.net < length inverses.now) uses.now }
+    requires wires { All (λ (u : NetUse). u.wire < length loads.now) uses.now }
     requires wires_paired { length wires.old ≡ length loads.now }
     requires classes_paired { length classes.old ≡ length loads.now }
-    requires paired { length prices.now ≡ length rows.now }
 {
     for wire in wires.iter_mut() {
         *wire = WireRounding::new();
@@ -30,42 +30,21 @@ pub(crate) fn round_up(
     for of_wire in classes.iter_mut() {
         *of_wire = ClassCosts::new();
     }
-    let mut start = 0usize;
-    for n in 0..rows.rows() {
-        let row = rows.row(n);
-        let inverse = (1 << 62) / u64::from(prices[n]).max(1);
-        round_net_up(parts, start, wires, classes, costs, row, loads, inverse);
-        start = start.saturating_add(row.len());
-    }
-}
-
-/// Reckons the uses of one net, whose parts begin at `start`, and of whose price this is the inverse in
-/// 2^-62ths.
-fn round_net_up(
-    parts: &mut [u32],
-    start: usize,
-    wires: &mut [WireRounding],
-    classes: &mut [ClassCosts],
-    costs: &Costs,
-    row: &[u32],
-    loads: &[u64],
-    inverse: u64,
-)
-    requires there { All (λ e. e < length loads.now) row.now }
-    requires wires_paired { length wires.old ≡ length loads.now }
-    requires classes_paired { length classes.old ≡ length loads.now }
-{
-    let mut place = start;
-    for e in row {
-        let wire = *e as usize;
-        let quotient = u128::from(loads[wire]).wrapping_mul(u128::from(inverse)) >> 57;
-        let count = quotient.min(MOST_PARTS) as u32;
+    for place in 0..uses.len() {
+        let wire = uses[place].wire as usize;
+        let inverse = inverses[uses[place].net as usize];
+        let count = parts_of(loads[wire], inverse);
         wires[wire].reckon(&mut classes[wire], costs, count);
         if place < parts.len() {
             parts[place] = count;
         }
-        place = place.wrapping_add(1);
     }
+}
+
+/// Half the load over the price with this inverse, in 64ths.
+fn parts_of(load: u64, inverse: u64) -> u32 {
+    let quotient = u128::from(load).wrapping_mul(u128::from(inverse)) >> 57;
+    quotient.min(MOST_PARTS) as u32
 }
 
 /// Lowers the classes of all wires. Answers false where some wire is too full for that.
@@ -87,39 +66,20 @@ pub(crate) fn round_down_some(
     values: &mut [u32],
     wires: &mut [WireRounding],
     costs: &Costs,
-    rows: &FlatRows<u32>,
+    uses: &[NetUse],
 )
-    requires there { All (λ row. All (λ e. e < length wires.old) row) rows.now }
-    requires paired { length values.old ≡ length rows.now }
+    requires nets { All (λ (u : NetUse). u.net < length values.old) uses.now }
+    requires wires { All (λ (u : NetUse). u.wire < length wires.old) uses.now }
 {
-    let mut start = 0usize;
-    for n in 0..rows.rows() {
-        let row = rows.row(n);
-        values[n] = within_32_bits(round_net_down(parts, start, wires, costs, row));
-        start = start.saturating_add(row.len());
+    for value in values.iter_mut() {
+        *value = 0;
     }
-}
-
-/// Puts halves of ratios in the places of the parts of one net's uses, which begin at `start`, and answers
-/// the sum of these ratios.
-fn round_net_down(
-    parts: &mut [u32],
-    start: usize,
-    wires: &mut [WireRounding],
-    costs: &Costs,
-    row: &[u32],
-) -> u64
-    requires { All (λ e. e < length wires.old) row.now }
-{
-    let mut sum = 0u64;
-    let mut place = start;
-    for e in row {
+    for place in 0..uses.len() {
         if place < parts.len() {
-            let half = wires[*e as usize].rounded_half(costs, parts[place]);
+            let net = uses[place].net as usize;
+            let half = wires[uses[place].wire as usize].rounded_half(costs, parts[place]);
             parts[place] = half;
-            sum = sum.wrapping_add(2 * u64::from(half));
+            values[net] = values[net].saturating_add(half.saturating_mul(2));
         }
-        place = place.wrapping_add(1);
     }
-    sum
 }

@@ -1,60 +1,36 @@
-//! Values of nets and sums of groups, which stop at 2^32 - 1.
+//! Values of nets, which stop at 2^32 - 1.
 ghost use Rattle.std.specs.Prelude.{◌≡◌, ◌<◌, length, All};
+ghost use Rattle.worst_refine.specs.declared.net_uses.NetUse.{NetUse};
 
-use crate::numbers::{larger, within_32_bits};
-use flat_rows::FlatRows;
-use tdm_problem::Problem;
+use crate::net_uses::NetUse;
+use crate::numbers::within_32_bits;
 
 /// While ratios are not yet whole numbers they count in so many parts.
 pub(crate) const PARTS: u64 = 16;
 
-/// The value of each net at these prices, in parts: the sum over its wires of the load over its price, each
-/// at least 2.
-pub(crate) fn value_nets(values: &mut [u32], rows: &FlatRows<u32>, prices: &[u32], loads: &[u64])
-    requires there { All (λ row. All (λ e. e < length loads.now) row) rows.now }
-    requires paired { length prices.now ≡ length rows.now }
-    requires valued { length values.old ≡ length rows.now }
+/// For each net the sum of the loads of its wires, each at least twice its price.
+pub(crate) fn sum_loads(sums: &mut [u64], uses: &[NetUse], prices: &[u32], loads: &[u64])
+    requires nets { All (λ (u : NetUse). u.net < length prices.now) uses.now }
+    requires wires { All (λ (u : NetUse). u.wire < length loads.now) uses.now }
+    requires paired { length sums.old ≡ length prices.now }
 {
-    for n in 0..rows.rows() {
+    for sum in sums.iter_mut() {
+        *sum = 0;
+    }
+    for net_use in uses {
+        let net = net_use.net as usize;
+        let least = 2 * u64::from(prices[net]).max(1);
+        sums[net] = sums[net].wrapping_add(loads[net_use.wire as usize].max(least));
+    }
+}
+
+/// The value of each net at these prices, in parts: the sum of its loads over its price.
+pub(crate) fn value_nets(values: &mut [u32], sums: &[u64], prices: &[u32])
+    requires summed { length sums.now ≡ length values.old }
+    requires paired { length prices.now ≡ length values.old }
+{
+    for n in 0..values.len() {
         let price = u64::from(prices[n]).max(1);
-        let sum = sum_of_loads(loads, rows.row(n), 2 * price);
-        let parts = sum.min(u64::MAX / PARTS) * PARTS / price;
-        values[n] = within_32_bits(parts);
+        values[n] = within_32_bits(sums[n].min(u64::MAX / PARTS) * PARTS / price);
     }
-}
-
-/// The sum of the loads of these wires, each at least so much.
-fn sum_of_loads(loads: &[u64], wires: &[u32], least: u64) -> u64
-    requires { All (λ e. e < length loads.now) wires.now }
-{
-    let mut sum = 0u64;
-    for e in wires {
-        sum = sum.wrapping_add(loads[*e as usize].max(least));
-    }
-    sum
-}
-
-/// The sum of each group from the values of the nets, and the largest of them.
-pub(crate) fn sum_groups(sums: &mut [u32], problem: &Problem, values: &[u32]) -> u64
-    requires groups { length sums.old ≡ length problem.now.groups }
-    requires nets { length values.now ≡ length problem.now.nets }
-{
-    let mut worst = 0;
-    for g in 0..problem.groups() {
-        let sum = within_32_bits(sum_of(values, problem.group(g)));
-        sums[g as usize] = sum;
-        worst = larger(worst, sum);
-    }
-    u64::from(worst)
-}
-
-/// The sum of the values of these nets.
-fn sum_of(values: &[u32], nets: &[u32]) -> u64
-    requires { All (λ n. n < length values.now) nets.now }
-{
-    let mut sum = 0u64;
-    for n in nets {
-        sum = sum.wrapping_add(u64::from(values[*n as usize]));
-    }
-    sum
 }

@@ -10,7 +10,7 @@ ghost use Rattle.worst_refine.specs.Traded.{HasSmallRatios};
 use super::tests::three_nets;
 use super::{trade, trade_from};
 use net_groups::Incidence;
-use solution_eval::{Verdict, judge, value};
+use solution_eval::{Verdict, judge};
 use std::alloc::{AllocError, Global};
 use std::test::Fail;
 use tdm_problem::{Problem, ProblemDraft, Solution, Trees, Wire, WireUse};
@@ -98,7 +98,7 @@ fn value_from(
 {
     let incidence = Incidence::of(alloc, problem)?;
     match trade_from(alloc, problem, &incidence, trees, s, best, true)? {
-        Some(better) => value(alloc, problem, &better),
+        Some(traded) => Ok(traded.value),
         None => Ok(0),
     }
 }

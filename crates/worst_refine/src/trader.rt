@@ -6,16 +6,16 @@
 //! those of others larger. Then the ratios are rounded to even numbers, and repriced and rounded again by the
 //! sums that these gave.
 ghost use Rattle.std.specs.Prelude.{◌≡◌, ◌<◌, length, All, IfOk};
-ghost use Rattle.tdm_problem.specs.Trees.{AreTreesFor};
-ghost use Rattle.net_groups.specs.Incidence.{IsIncidenceOf};
+ghost use Rattle.worst_refine.specs.Members.{AreMembersOf};
+ghost use Rattle.worst_refine.specs.NetUses.{AreUsesOn};
 ghost use Rattle.worst_refine.specs.TraderRoom.{IsTraderFor};
 
-use crate::prices::{reprice, start_prices, take_loads};
+use crate::members::{Member, sum_groups, take_largest_sums};
+use crate::net_uses::NetUse;
+use crate::prices::{reprice, start_prices, take_inverses, take_loads};
 use crate::rounding::{lower_all_classes, round_down_some, round_up};
-use crate::sums::{PARTS, sum_groups, value_nets};
+use crate::sums::{PARTS, sum_loads, value_nets};
 use crate::wire_rounding::{ClassCosts, Costs, WireRounding};
-use flat_rows::FlatRows;
-use net_groups::Incidence;
 use std::alloc::{AllocError, Global};
 use tdm_problem::Problem;
 
@@ -28,6 +28,8 @@ pub(crate) struct Trader {
     prices: Vec<u32>,
     loads: Vec<u64>,
     net_values: Vec<u32>,
+    /// Of each net the sum of its loads, or the inverse of its price, as a sweep over the uses wants it.
+    net_numbers: Vec<u64>,
     group_sums: Vec<u32>,
     wires: Vec<WireRounding>,
     classes: Vec<ClassCosts>,
@@ -53,6 +55,7 @@ impl Trader {
             prices,
             loads: vec![in alloc; 0u64; wires]?,
             net_values: vec![in alloc; 0u32; nets]?,
+            net_numbers: vec![in alloc; 0u64; nets]?,
             group_sums: vec![in alloc; 0u32; problem.groups() as usize]?,
             wires: vec![in alloc; WireRounding::new(); wires]?,
             classes: vec![in alloc; ClassCosts::new(); wires]?,
@@ -62,32 +65,31 @@ impl Trader {
         })
     }
 
-    /// The halves of even ratios, use by use of the rows, by which the largest group sum may be below `best`;
-    /// none where the trade saw that it would not be. The rows are the trees of the nets. All prices change
-    /// at most `turns` times, the last four of them between roundings.
+    /// The halves of even ratios, use by use, by which the largest group sum may be below `best`; none where
+    /// the trade saw that it would not be. All prices change at most `turns` times, the last four of them
+    /// between roundings.
     pub(crate) fn propose(
         mut self,
         alloc: Global,
         problem: &Problem,
-        incidence: &Incidence,
-        rows: &FlatRows<u32>,
+        members: &[Member],
+        uses: &[NetUse],
         best: u64,
         turns: u32,
     ) -> Result<Option<Vec<u32>>, AllocError>
         requires room { IsTraderFor problem.now self }
-        requires incidence { IsIncidenceOf problem.now incidence.now }
-        requires trees_for { AreTreesFor problem.now rows.now }
+        requires members { AreMembersOf problem.now members.now }
+        requires uses { AreUsesOn problem.now uses.now }
     {
         let best = best.min(u64::MAX / PARTS);
         let goal = (best - best / 4096) * PARTS;
         let roundings = turns.min(ROUNDINGS);
-        if self.take_turns(problem, incidence, rows, goal, turns - roundings + 1) > goal {
+        if self.take_turns(problem, members, uses, goal, turns - roundings + 1) > goal {
             return Ok(None);
         }
-        let uses = items_of(rows);
-        self.halves = vec![in alloc; 0u32; uses]?;
-        self.best_halves = vec![in alloc; 0u32; uses]?;
-        if self.round_repeatedly(problem, incidence, rows, best, roundings) >= best {
+        self.halves = vec![in alloc; 0u32; uses.len()]?;
+        self.best_halves = vec![in alloc; 0u32; uses.len()]?;
+        if self.round_repeatedly(problem, members, uses, best, roundings) >= best {
             return Ok(None);
         }
         Ok(Some(self.best_halves))
@@ -98,37 +100,50 @@ impl Trader {
     fn take_turns(
         &mut self,
         problem: &Problem,
-        incidence: &Incidence,
-        rows: &FlatRows<u32>,
+        members: &[Member],
+        uses: &[NetUse],
         goal: u64,
         turns: u32,
     ) -> u64
         requires room { IsTraderFor problem.now self.old }
-        requires incidence { IsIncidenceOf problem.now incidence.now }
-        requires trees_for { AreTreesFor problem.now rows.now }
+        requires members { AreMembersOf problem.now members.now }
+        requires uses { AreUsesOn problem.now uses.now }
         ensures { IsTraderFor problem.now self.new }
     {
         let mut last = u64::MAX;
         for turn in 0..turns {
-            let worst = self.sum_at_prices(problem, rows);
+            let worst = self.sum_at_prices(problem, members, uses);
             if worst > last - (last >> 13) || (turn >= 2 && is_out_of_reach(worst, last, goal)) {
                 return worst;
             }
             last = worst;
-            reprice(&mut self.prices, incidence, &self.group_sums, worst);
+            self.reprice_nets(problem, members, worst);
         }
-        self.sum_at_prices(problem, rows)
+        self.sum_at_prices(problem, members, uses)
+    }
+
+    /// Makes nets dearer or cheaper by their largest group sums, of which this is the worst. The values of the
+    /// nets are lost.
+    fn reprice_nets(&mut self, problem: &Problem, members: &[Member], worst: u64)
+        requires room { IsTraderFor problem.now self.old }
+        requires members { AreMembersOf problem.now members.now }
+        ensures { IsTraderFor problem.now self.new }
+    {
+        take_largest_sums(&mut self.net_values, members, &self.group_sums);
+        reprice(&mut self.prices, &self.net_values, worst);
     }
 
     /// The largest group sum at the prices, in parts.
-    fn sum_at_prices(&mut self, problem: &Problem, rows: &FlatRows<u32>) -> u64
+    fn sum_at_prices(&mut self, problem: &Problem, members: &[Member], uses: &[NetUse]) -> u64
         requires room { IsTraderFor problem.now self.old }
-        requires trees_for { AreTreesFor problem.now rows.now }
+        requires members { AreMembersOf problem.now members.now }
+        requires uses { AreUsesOn problem.now uses.now }
         ensures { IsTraderFor problem.now self.new }
     {
-        take_loads(&mut self.loads, rows, &self.prices);
-        value_nets(&mut self.net_values, rows, &self.prices, &self.loads);
-        sum_groups(&mut self.group_sums, problem, &self.net_values)
+        take_loads(&mut self.loads, uses, &self.prices);
+        sum_loads(&mut self.net_numbers, uses, &self.prices, &self.loads);
+        value_nets(&mut self.net_values, &self.net_numbers, &self.prices);
+        sum_groups(&mut self.group_sums, members, &self.net_values)
     }
 
     /// Rounds, and reprices and rounds again, and keeps the best halves. It gives up where the gains cannot
@@ -136,25 +151,25 @@ impl Trader {
     fn round_repeatedly(
         &mut self,
         problem: &Problem,
-        incidence: &Incidence,
-        rows: &FlatRows<u32>,
+        members: &[Member],
+        uses: &[NetUse],
         best: u64,
         roundings: u32,
     ) -> u64
         requires room { IsTraderFor problem.now self.old }
-        requires incidence { IsIncidenceOf problem.now incidence.now }
-        requires trees_for { AreTreesFor problem.now rows.now }
+        requires members { AreMembersOf problem.now members.now }
+        requires uses { AreUsesOn problem.now uses.now }
     {
         let (mut found, mut last) = (u64::MAX, u64::MAX);
         for k in 0..roundings {
             if k > 0 {
-                reprice(&mut self.prices, incidence, &self.group_sums, last);
-                take_loads(&mut self.loads, rows, &self.prices);
+                self.reprice_nets(problem, members, last);
+                take_loads(&mut self.loads, uses, &self.prices);
             }
-            if !self.round(problem, rows) {
+            if !self.round(problem, uses) {
                 return found;
             }
-            let sum = sum_groups(&mut self.group_sums, problem, &self.net_values);
+            let sum = sum_groups(&mut self.group_sums, members, &self.net_values);
             if sum < found {
                 found = sum;
                 std::mem::swap(&mut self.best_halves, &mut self.halves);
@@ -168,18 +183,19 @@ impl Trader {
     }
 
     /// Rounds the ratios at the prices to even numbers. Answers false where they do not fit the wires.
-    fn round(&mut self, problem: &Problem, rows: &FlatRows<u32>) -> bool
+    fn round(&mut self, problem: &Problem, uses: &[NetUse]) -> bool
         requires room { IsTraderFor problem.now self.old }
-        requires trees_for { AreTreesFor problem.now rows.now }
+        requires uses { AreUsesOn problem.now uses.now }
         ensures { IsTraderFor problem.now self.new }
     {
+        take_inverses(&mut self.net_numbers, &self.prices);
         round_up(
             &mut self.halves,
             &mut self.wires,
             &mut self.classes,
             &self.costs,
-            rows,
-            &self.prices,
+            uses,
+            &self.net_numbers,
             &self.loads,
         );
         if !lower_all_classes(&mut self.wires, &self.classes) {
@@ -190,19 +206,10 @@ impl Trader {
             &mut self.net_values,
             &mut self.wires,
             &self.costs,
-            rows,
+            uses,
         );
         true
     }
-}
-
-/// How many items the rows have.
-fn items_of(rows: &FlatRows<u32>) -> usize {
-    let mut items = 0usize;
-    for n in 0..rows.rows() {
-        items = items.saturating_add(rows.row(n).len());
-    }
-    items
 }
 
 /// Whether the largest sum stays above the goal where the next turns gain twice as much as the last one.

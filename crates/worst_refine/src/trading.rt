@@ -3,13 +3,15 @@ ghost use Rattle.std.specs.Prelude.{◌≡◌, ◌<◌, ◌≤◌, length, All, 
 ghost use Rattle.tdm_problem.specs.Legal.{IsLegal};
 ghost use Rattle.tdm_problem.specs.Routing.{wires_of};
 ghost use Rattle.tdm_problem.specs.Trees.{AreTreesFor, trees_of};
+ghost use Rattle.tdm_problem.specs.Value.{value_of};
 ghost use Rattle.net_groups.specs.Incidence.{IsIncidenceOf};
 ghost use Rattle.even_legalise.specs.Uniform.{JoinsEachNet};
 ghost use Rattle.worst_refine.specs.Traded.{HasSmallRatios, IsBetter, IsTraded};
 
-use crate::proposed::checked;
+use crate::members::members_of;
+use crate::net_uses::uses_of_trees;
+use crate::proposed::{TradedSolution, checked};
 use crate::trader::Trader;
-use flat_rows::FlatRows;
 use net_groups::Incidence;
 use solution_eval::value;
 use std::alloc::{AllocError, Global};
@@ -20,9 +22,9 @@ const TURNS: u32 = 12;
 
 const TURNS_AT_FIRST: u32 = 20;
 
-/// A legal solution with exactly these trees and a value below `best`, if the trade finds one. It begins with
-/// ratios by the numbers `s`, one for each net: on a wire about the sum of the numbers over the net's own.
-/// The first trade of a run takes more turns.
+/// A legal solution with exactly these trees and a value below `best`, and that value, if the trade finds
+/// one. It begins with ratios by the numbers `s`, one for each net: on a wire about the sum of the numbers
+/// over the net's own. The first trade of a run takes more turns.
 ///
 /// The trees are for the problem, and each joins its net. The only error is want of memory.
 pub fn trade_from(
@@ -33,12 +35,15 @@ pub fn trade_from(
     s: &[u64],
     best: u128,
     first: bool,
-) -> Result<Option<Solution>, AllocError>
+) -> Result<Option<TradedSolution>, AllocError>
     requires incidence { IsIncidenceOf problem.now incidence.now }
     requires trees_for { AreTreesFor problem.now trees.now }
     requires joined { JoinsEachNet problem.now trees.now }
     requires paired { length s.now ≡ length problem.now.nets }
-    ensures { IfOk result (λ found. IfSome found (IsBetter problem.now trees.now best)) }
+    ensures better { IfOk result (λ found. IfSome found
+        (λ traded. IsBetter problem.now trees.now best traded.solution)) }
+    ensures value { IfOk result (λ found. IfSome found
+        (λ traded. traded.value ≡ value_of problem.now traded.solution)) }
 {
     let turns = if first { TURNS_AT_FIRST } else { TURNS };
     better(alloc, problem, incidence, trees, s, best, turns)
@@ -68,7 +73,7 @@ pub fn trade(
     let s = numbers_of(alloc, solution)?;
     let best = value(alloc, problem, solution)?;
     if let Some(traded) = better(alloc, problem, incidence, &trees, &s, best, turns)? {
-        *solution = traded;
+        *solution = traded.solution;
     }
     Ok(())
 }
@@ -82,12 +87,15 @@ fn better(
     s: &[u64],
     best: u128,
     turns: u32,
-) -> Result<Option<Solution>, AllocError>
+) -> Result<Option<TradedSolution>, AllocError>
     requires incidence { IsIncidenceOf problem.now incidence.now }
     requires trees_for { AreTreesFor problem.now trees.now }
     requires joined { JoinsEachNet problem.now trees.now }
     requires paired { length s.now ≡ length problem.now.nets }
-    ensures { IfOk result (λ found. IfSome found (IsBetter problem.now trees.now best)) }
+    ensures better { IfOk result (λ found. IfSome found
+        (λ traded. IsBetter problem.now trees.now best traded.solution)) }
+    ensures value { IfOk result (λ found. IfSome found
+        (λ traded. traded.value ≡ value_of problem.now traded.solution)) }
 {
     match proposed_halves(alloc, problem, incidence, trees, s, best, turns)? {
         Some(halves) => checked(alloc, problem, trees, halves, best),
@@ -110,20 +118,10 @@ fn proposed_halves(
     requires paired { length s.now ≡ length problem.now.nets }
 {
     let trader = Trader::new(alloc, problem, s)?;
-    let rows = rows_of(alloc, trees)?;
+    let members = members_of(alloc, problem, incidence)?;
+    let uses = uses_of_trees(alloc, problem, trees)?;
     let goal = best.min(u128::from(u64::MAX)) as u64;
-    trader.propose(alloc, problem, incidence, &rows, goal, turns)
-}
-
-/// The wires of each net, one net after another without gaps, since a trade goes over them many times.
-fn rows_of(alloc: Global, trees: &Trees) -> Result<FlatRows<u32>, AllocError>
-    ensures { IfOk result (λ rows. rows ≡ trees.now) }
-{
-    let mut rows = FlatRows::new(alloc);
-    for n in 0..trees.nets() {
-        rows.push_row(trees.wires_of(n))?;
-    }
-    Ok(rows)
+    trader.propose(alloc, problem, &members, &uses, goal, turns)
 }
 
 /// The wires of each net's uses.

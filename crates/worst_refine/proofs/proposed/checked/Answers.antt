@@ -16,8 +16,8 @@ pub fits_by_ceilings-requires-clause-even : goal.fits_by_ceilings-requires-claus
 fits_by_ceilings-requires-clause-even c =
     even_of_small c.in_ok-solution.solution c.in_ok-solution.ensures.small
 
-pub returns : goal.returns
-returns c =
+pub returns-clause-better : goal.returns-clause-better
+returns-clause-better c =
     let made = c.in_ok-solution.ensures in
     record {
       legal = legal_on_trees c.args.problem.now c.args.trees.now c.in_ok-solution.solution
@@ -30,5 +30,5 @@ returns c =
           )));
       wires = made.wires;
       small = most_of_small c.in_ok-solution.solution made.small;
-      below = omega (arith, c.if-branch-best.false, c.in_ok-value.ensures);
+      below = omega (arith, c.if-not-branch.false, c.in_ok-value.ensures);
     }
