@@ -5,7 +5,7 @@ use Rattle.std.specs.List.{list_any}
 use Rattle.std.proofs.lemmas.Bool.{eq-eqb, ne_eqb, cases_eq, cond_both, or_right}
 use Rattle.std.proofs.lemmas.List.{length-take, get_or-take, get_or_default, get_or-set_same, get_or-set_other}
 use Rattle.std.proofs.lemmas.List.Folds.{list_any_more, list_any_none}
-use Rattle.std.proofs.lemmas.List.Sums.{sum_by-set, sum_by_more}
+use Rattle.std.proofs.lemmas.List.Sums.{sum_by-cons, sum_by-set, sum_by_more}
 use Rattle.std.proofs.lemmas.Nat.{mul-le}
 use Rattle.tdm_problem.specs.Weights.{net_weight}
 
@@ -123,6 +123,19 @@ net_weight_more groups weights g n there whole =
 weight_in-le : (nets : List ℕ) (weight n : ℕ) → weight_in nets weight n ≤ weight
 weight_in-le nets weight n = cond_both (list_any (λ m. m == n) nets) weight 0 (λ x. x ≤ weight)
     (λ _. omega arith) (λ _. omega arith)
+
+-- a net weighs no more than all groups together
+pub net_weight-le : (groups : List (List ℕ)) (weights : List ℕ) (n : ℕ)
+    → net_weight groups weights n ≤ sum weights
+net_weight-le [] weights n = omega arith
+net_weight-le (group ∷ groups) [] n = omega arith
+net_weight-le (group ∷ groups) (weight ∷ weights) n =
+    omega (
+      arith,
+      sum_by-cons (λ (w : ℕ). w) weight weights,
+      weight_in-le group weight n,
+      net_weight-le groups weights n,
+    )
 
 -- the list has the weight of each net by the first g groups, and no large number
 pub record AreWeightsUpTo (g : ℕ) (groups : List (List ℕ)) (group_weights : List ℕ) (nets : ℕ)

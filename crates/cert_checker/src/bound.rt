@@ -5,11 +5,13 @@ ghost use Rattle.tdm_problem.specs.Board.{IsBoard};
 ghost use Rattle.bound_cert.specs.Certificate.{IsCert, IsCertFor};
 ghost use Rattle.bound_cert.specs.Valid.{IsValid};
 ghost use Rattle.cert_checker.specs.Answer.{IsLowerBound};
-ghost use Rattle.bound_cert.specs.Bound.{demand_by, divisor_of, least_even, IsBound};
+ghost use Rattle.bound_cert.specs.declared.certificate.CertKind.TheVariants.{Share};
+ghost use Rattle.bound_cert.specs.Bound.{bound_of, demand_by, divisor_of, least_even, root_of_net, IsBound};
 ghost use Rattle.cert_checker.specs.NetWeights.{AreNetWeights};
 ghost use Rattle.cert_checker.specs.Spreads.{AreSpreads};
 ghost use Rattle.tdm_problem.specs.Sums.{sum_below};
 
+use crate::spread::chosen_sum;
 use bound_cert::{CertKind, Certificate};
 use integer_root::isqrt;
 use tdm_problem::Problem;
@@ -32,6 +34,25 @@ pub(crate) fn bound(
         demand(problem, cert, weights, spreads),
         divisor(problem, cert),
     )
+}
+
+/// The bound that a certificate by shares carries by the choices of its nets, by the roots of the nets'
+/// weights, each rounded down. Where the certificate is valid, no legal solution's value is below it; whether
+/// it is valid is not looked at. Takes no memory. One pass over all nets.
+pub fn bound_by_shares(problem: &Problem, cert: &Certificate, roots: &[u64]) -> u128
+    requires is_for { IsCertFor problem.now cert.now }
+    requires share { cert.now.kind ≡ Share }
+    requires count { length roots.now ≡ length problem.now.nets }
+    requires roots { (n : ℕ) → n < length problem.now.nets
+        → slice_index roots.now n ≡ root_of_net problem.now cert.now n }
+    ensures value { result ≡ bound_of problem.now cert.now }
+    ensures lower { IsValid problem.now cert.now → IsLowerBound problem.now result }
+{
+    let _kind = cert.kind();
+    let weights = sum_of_weights(problem, cert);
+    let total = 2 * chosen_sum(problem, cert, roots);
+    let squares = sum_of_squares(problem, cert);
+    least_even(total.saturating_sub(squares), u128::from(weights))
 }
 
 /// What the bound times the divisor must reach, 0 where that is negative.
@@ -70,7 +91,7 @@ fn weighted_sum(factors: &[u64], spreads: &[u128]) -> u128
 }
 
 /// Puts the whole square root of each number in its place.
-fn take_roots(numbers: &mut [u64])
+pub(crate) fn take_roots(numbers: &mut [u64])
     requires { sum numbers.old ≤ 2 ^ 64 }
     ensures { numbers.new ≡ map root_of numbers.old }
 {

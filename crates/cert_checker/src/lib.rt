@@ -16,6 +16,7 @@ mod spread;
 mod steep;
 
 pub use answer::{CheckAnswer, check};
+pub use bound::bound_by_shares;
 pub use growth::Grower;
 pub use net_growths::growths;
 pub use steep::{Steep, first_steep};

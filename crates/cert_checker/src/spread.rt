@@ -1,6 +1,7 @@
 //! How far nets are spread: by the potentials that they choose, or by their growth.
-ghost use Rattle.std.specs.Prelude.{◌≡◌, ◌+◌, ◌*◌, ◌<◌, ◌≤◌, true, false, length, slice_index, sum, All, IfOk};
+ghost use Rattle.std.specs.Prelude.{◌≡◌, ◌+◌, ◌*◌, ◌^◌, ◌<◌, ◌≤◌, true, false, length, slice_index, sum, All, IfOk};
 ghost use Rattle.tdm_problem.specs.Board.{IsBoard};
+ghost use Rattle.tdm_problem.specs.Sums.{sum_below};
 ghost use Rattle.bound_cert.specs.Certificate.{IsCertFor, IsPotential};
 ghost use Rattle.bound_cert.specs.Bound.{spread, net_spread};
 ghost use Rattle.bound_cert.specs.Limits.{most_potential_value};
@@ -46,6 +47,23 @@ fn chosen_spreads(
         spreads.push(u128::from(spread_of_net(problem, cert, n)))?;
     }
     Ok(spreads)
+}
+
+/// The sum of how far the values of each net's potential lie apart, each times the net's factor.
+pub(crate) fn chosen_sum(problem: &Problem, cert: &Certificate, factors: &[u64]) -> u128
+    requires is_for { IsCertFor problem.now cert.now }
+    requires count { length factors.now ≡ length problem.now.nets }
+    requires small { All (λ factor. factor ≤ 2 ^ 32) factors.now }
+    ensures value { result ≡ sum_below (length problem.now.nets)
+        (λ n. slice_index factors.now n * net_spread problem.now cert.now n) }
+    ensures within { result ≤ 2 ^ 112 }
+    ensures board { IsBoard problem.now }
+{
+    let mut total = 0;
+    for n in 0..problem.nets() {
+        total += u128::from(factors[n as usize]) * u128::from(spread_of_net(problem, cert, n));
+    }
+    total
 }
 
 /// How far the values of the potential that net `n` chooses lie apart over its FPGAs; 0 where it chooses

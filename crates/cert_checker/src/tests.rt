@@ -1,6 +1,8 @@
 //! Certificates of small boards, checked.
 use super::*;
-use bound_cert::{CertFault, read_cert};
+use crate::bound::take_roots;
+use crate::net_weights::net_weights;
+use bound_cert::{CertFault, CertKind, read_cert};
 use std::alloc::{AllocError, Global};
 use std::test::Fail;
 use tdm_problem::{Problem, ProblemDraft, Wire};
@@ -49,6 +51,23 @@ fn is_accepted(
         first_steep(&problem, &cert).is_none()
             && check(alloc, &problem, &cert)? == CheckAnswer::Accepted { bound },
     )
+}
+
+/// The bound of a certificate by shares with this text from the roots of the weights that it gives the nets;
+/// 0 where it is by hops.
+fn bound_from_roots(
+    alloc: Global,
+    problem: Result<Problem, AllocError>,
+    text: &[u8],
+) -> Result<u128, CertFault> {
+    let problem = problem?;
+    let cert = read_cert(alloc, text, &problem)?;
+    let mut roots = net_weights(alloc, &problem, &cert)?;
+    take_roots(&mut roots);
+    match cert.kind() {
+        CertKind::Share => Ok(bound_by_shares(&problem, &cert, &roots)),
+        CertKind::Hop { unit: _ } => Ok(0),
+    }
 }
 
 /// Whether a certificate with this text is rejected for the problem, first at this potential and wire.
@@ -102,6 +121,15 @@ fn bounds_are_least_and_even(rt: HostRuntime) -> Result<(), Fail> {
         )?
     );
     assert!(rt; is_accepted(alloc, star(alloc), b"1 2 1 1\n1\n1 0 2 2\n1\n", 4)?);
+    Ok(())
+}
+
+#[test]
+fn known_roots_give_the_bound_by_shares(rt: HostRuntime) -> Result<(), Fail> {
+    let alloc = rt.alloc();
+    assert!(rt;
+        bound_from_roots(alloc, three_nets(alloc), b"1 1 0 1\n1\n3\n0 3\n1\n1\n1\n")? == 10
+    );
     Ok(())
 }
 

@@ -13,11 +13,6 @@ use Rattle.tdm_problem.specs.Value.{value_of}
 use Rattle.tdm_problem.specs.Walk.{IsMinimalTree}
 use Rattle.even_legalise.specs.Uniform.{JoinsEachNet}
 use Rattle.ripup_reroute.specs.Rerouting.{AreMinimalTrees}
-use Rattle.bound_cert.specs.Certificate.{IsCert, IsCertFor}
-use Rattle.bound_cert.specs.Limits.{most_potential_values}
-use Rattle.bound_cert.specs.Valid.{IsValid}
-use Rattle.bound_cert.specs.Bound.{IsBound}
-use Rattle.cert_checker.specs.Answer.{IsLowerBound}
 use Rattle.worst_refine.specs.Lowered.{IsLowered}
 use Rattle.worst_refine.specs.Traded.{HasSmallRatios}
 use Rattle.worst_refine.proofs.Lowering.{same_uses}
@@ -25,7 +20,7 @@ use Rattle.worst_refine.proofs.Proposals.{trees_for_legal}
 use Rattle.worst_refine.proofs.Worth.{trees_lowered}
 use Rattle.tdm_cli.specs.declared.certify.Certified.{Certified}
 use Rattle.tdm_cli.specs.Baseline.{most_uses}
-use Rattle.tdm_cli.specs.Best.{IsBest}
+use Rattle.tdm_cli.specs.Best.{IsBest, IsCertified}
 use Rattle.tdm_cli.proofs.SharedValues.{lengths-of, wires-at}
 
 -- minimal trees join their nets
@@ -153,10 +148,9 @@ IsBest-lowered board new old worth value certified best legal lowered less worth
 
 -- a certificate of a greater bound is the best
 pub IsBest-certified : (board : Board) (routing : Routing) (value : ℕ) (old new : Certified)
-    → IsBest board routing value old → old.bound < new.bound → IsCert new.cert → IsCertFor board new.cert
-    → sum_by length new.cert.potentials ≤ most_potential_values → IsValid board new.cert
-    → IsBound board new.cert new.bound → IsLowerBound board new.bound → IsBest board routing value new
-IsBest-certified board routing value old new best more within for_board few valid is_bound lower =
+    → IsBest board routing value old → old.bound < new.bound → IsCertified board new
+    → IsBest board routing value new
+IsBest-certified board routing value old new best more is =
     let was = best.may_be_written in
     record {
       may_be_written = record {
@@ -166,14 +160,14 @@ IsBest-certified board routing value old new best more within for_board few vali
         few = was.few;
         sayable = was.sayable;
         no_worse = was.no_worse;
-        within = within;
-        cert_for = for_board;
-        cert_few = few;
-        valid = valid;
-        is_bound = is_bound;
-        lower = lower;
-        hop_floor = λ floor is. omega (arith, was.hop_floor floor is, more);
-        share_floor = λ floor is. omega (arith, was.share_floor floor is, more);
+        within = is.within;
+        cert_for = is.for_board;
+        cert_few = is.few;
+        valid = is.valid;
+        is_bound = is.is_bound;
+        lower = is.lower;
+        hop_floor = λ floor of. omega (arith, was.hop_floor floor of, more);
+        share_floor = λ floor of. omega (arith, was.share_floor floor of, more);
       };
       value_is = best.value_is;
     }

@@ -1,5 +1,6 @@
 //! The best solution and the best certificate that were found so far.
 ghost use Rattle.std.specs.Prelude.{◌≡◌, ◌≤◌, ◌^◌, ℕ, length, map, sum_by, All, OnOk};
+ghost use Rattle.tdm_problem.specs.Board.{Board};
 ghost use Rattle.tdm_problem.specs.Legal.{AllConnectable};
 ghost use Rattle.tdm_problem.specs.Tight.{IsTight};
 ghost use Rattle.tdm_problem.specs.Trees.{HasRisingRows};
@@ -14,13 +15,15 @@ ghost use Rattle.even_legalise.specs.Shared.{shared_routing};
 ghost use Rattle.net_groups.specs.Incidence.{IsIncidenceOf};
 ghost use Rattle.ripup_reroute.specs.Rerouting.{AreMinimalTrees};
 ghost use Rattle.tdm_cli.specs.Baseline.{most_uses};
-ghost use Rattle.tdm_cli.specs.Best.{IsBest};
+ghost use Rattle.tdm_cli.specs.Best.{IsBest, IsCertified};
 ghost use Rattle.tdm_cli.specs.Candidates.{IsCandidate};
+ghost use Rattle.tdm_cli.specs.Rounds.{AreRoots};
 
 use crate::candidates::Candidate;
 use crate::certify::{Certified, checked_bound};
 use board_graph::BoardGraph;
 use bound_cert::{Certificate, weighted_share_cert};
+use cert_checker::bound_by_shares;
 use even_legalise::legalise;
 use group_multipliers::largest_sum;
 use net_groups::Incidence;
@@ -134,6 +137,21 @@ pub(crate) fn tighten_best(
     Ok(())
 }
 
+/// Keeps a certificate where its bound is greater than the best.
+fn keep_greater(certified: Certified, best: &mut Best)
+    ensures best { (board : Board) → IsCertified board certified
+        → IsBest board best.old.solution best.old.value best.old.certified
+        → IsBest board best.new.solution best.new.value best.new.certified }
+    ensures higher { best.old.certified.bound ≤ best.new.certified.bound }
+    ensures bound { certified.bound ≤ best.new.certified.bound }
+    ensures value { best.new.value ≡ best.old.value }
+{
+    if certified.bound <= best.certified.bound {
+        return;
+    }
+    best.certified = certified;
+}
+
 /// Keeps a valid certificate where its bound is greater than the best.
 pub(crate) fn keep_checked(
     alloc: Global,
@@ -153,25 +171,24 @@ pub(crate) fn keep_checked(
     ensures value { best.new.value ≡ best.old.value }
 {
     let bound = checked_bound(alloc, problem, &cert)?;
-    if bound <= best.certified.bound {
-        return Ok(());
-    }
-    best.certified = Certified { cert, bound };
+    keep_greater(Certified { cert, bound }, best);
     Ok(())
 }
 
 /// Keeps the certificate by shares at the weights of the groups and at the loads of a round's trees as
-/// lengths, where its bound is greater than the best.
+/// lengths, where its bound is greater than the best. The numbers are the roots of the nets' weights.
 pub(crate) fn keep_certificate(
     alloc: Global,
     problem: &Problem,
     graph: &BoardGraph,
     candidate: &Candidate,
+    numbers: &[u64],
     best: &mut Best,
 ) -> Result<(), AllocError>
     requires graph { graph.now ≡ graph_of problem.now }
     requires connectable { AllConnectable problem.now }
     requires candidate { IsCandidate problem.now candidate.now }
+    requires roots { AreRoots problem.now candidate.now.weights.items numbers.now }
     requires best { IsBest problem.now best.old.solution best.old.value best.old.certified }
     ensures best { OnOk result (IsBest problem.now best.new.solution best.new.value best.new.certified) }
     ensures higher { OnOk result (best.old.certified.bound ≤ best.new.certified.bound) }
@@ -188,6 +205,7 @@ pub(crate) fn keep_certificate(
         &candidate.weights,
         &candidate.lengths,
     )?;
-    keep_checked(alloc, problem, cert, best)?;
+    let bound = bound_by_shares(problem, &cert, numbers);
+    keep_greater(Certified { cert, bound }, best);
     Ok(())
 }

@@ -188,7 +188,14 @@ fn round(
     let next = next_weights(alloc, &running.weights, &sums)?;
     drop(sums);
     let candidate = candidate_of(alloc, problem, &running.weights, &running.trees, &numbers)?;
-    keep_certificate(alloc, problem, graph, &candidate, &mut running.best)?;
+    keep_certificate(
+        alloc,
+        problem,
+        graph,
+        &candidate,
+        &numbers,
+        &mut running.best,
+    )?;
     running.candidates.add(candidate);
     running.weights = next;
     keep_traded(

@@ -9,7 +9,7 @@ use Rattle.bound_cert.specs.Weighted.{IsShareBound, ListsLengths}
 use Rattle.tdm_cli.specs.declared.candidates.Candidate.{Candidate}
 use Rattle.tdm_cli.specs.declared.certify.Certified.{Certified}
 use Rattle.tdm_cli.specs.Candidates.{IsOfRound}
-use Rattle.tdm_cli.specs.Rounds.{Round, round_length}
+use Rattle.tdm_cli.specs.Rounds.{AreRoots, Round, round_length}
 use Rattle.tdm_cli.proofs.NumberLaws.{range-below}
 use Rattle.tdm_cli.proofs.RunningLaws.{Reroutes-made, renewed-count}
 use Rattle.tdm_cli.proofs.SharedValues.{shared-sums_small}
@@ -65,6 +65,17 @@ next_weights-requires-clause-some c =
       subst (λ (ns : List ℕ). c.keep_solution.new.best.value ≤ value_of board (shared_routing board trees ns))
           numbers c.in_ok-keep_solution.ensures.value,
     )
+
+pub keep_certificate-requires-clause-roots : goal.keep_certificate-requires-clause-roots
+keep_certificate-requires-clause-roots c =
+    let board = c.args.problem.now in
+    let numbers : List ℕ = c.in_ok-numbers.numbers.items in
+    let weights : List ℕ = c.in_ok-candidate.candidate.weights.items in
+    let same : weights ≡ c.deref.result.now = c.in_ok-candidate.ensures.of_round.weights
+    ∙ c.deref-8.ensures.value ∙ sym c.deref.ensures.value in
+    subst (λ (ns : List ℕ). AreRoots board weights ns) (sym c.deref-10.ensures.value)
+    (subst (λ (ws : List ℕ). AreRoots board ws numbers) (sym same)
+    (c.in_ok-numbers.ensures.roots board c.requires.incidence))
 
 pub returns-clause-weights : goal.returns-clause-weights
 returns-clause-weights c =
